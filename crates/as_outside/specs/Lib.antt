@@ -1,0 +1,4 @@
+pub mod Log
+pub mod Shelf
+pub mod Outputs
+pub mod Report

@@ -1,0 +1,13 @@
+//! The outside of the service as contracts see it: shelves and desks with logs and counts of faults, one in memory
+//! for tests, gates, and the report of a run.
+#![tactic(auto)]
+
+mod entry;
+mod gate;
+mod report;
+mod shelf;
+
+pub use entry::Entry;
+pub use gate::{FreeGate, Gate, Place};
+pub use report::{Report, Status, code};
+pub use shelf::{Desk, Failed, Shelf};
