@@ -1,0 +1,6 @@
+pub mod Parts
+pub mod Number
+pub mod Item
+pub mod Lines
+pub mod Cutter
+pub mod Answer
