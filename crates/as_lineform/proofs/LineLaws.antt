@@ -17,8 +17,9 @@ pub lines_push : (bytes : List ℕ) (b : ℕ) → lines (bytes ++ b ∷ []) ≡ 
 lines_push bytes b =
     ap (map item_of_line) (but_last_by_byte 10 bytes b)
     ∙ elim (b == 10) as (λ t. map item_of_line (if t then whole bytes ++ rest bytes ∷ [] else whole bytes) ≡ lines bytes ++ (if t then item_of_line (rest bytes) ∷ [] else [])) [
-      true ↦ map-append item_of_line (whole bytes) (rest bytes ∷ [])
-    | false ↦ sym (append-nil (lines bytes)) ]
+      | true ↦ map-append item_of_line (whole bytes) (rest bytes ∷ [])
+      | false ↦ sym (append-nil (lines bytes))
+    ]
 
 -- the items of more bytes go on from those of fewer
 pub lines-append : (a b : List ℕ) → (more : List Item) × (lines (a ++ b) ≡ lines a ++ more)

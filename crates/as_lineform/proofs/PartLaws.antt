@@ -18,8 +18,9 @@ pub IsSome_part-parts_of : (separator : ℕ) (bytes : List ℕ) → IsSome_part 
 IsSome_part-parts_of separator [] = tt
 IsSome_part-parts_of separator (b ∷ bytes) =
     elim (b == separator) as (λ t. IsSome_part (if t then [] ∷ parts_of separator bytes else onto_first b (parts_of separator bytes))) [
-      true ↦ tt
-    | false ↦ IsSome_part-onto_first b (parts_of separator bytes) ]
+      | true ↦ tt
+      | false ↦ IsSome_part-onto_first b (parts_of separator bytes)
+    ]
 
 pub but_last-cons : (part : List ℕ) (parts : List (List ℕ)) → IsSome_part parts → but_last (part ∷ parts) ≡ part ∷ but_last parts
 but_last-cons part [] h = absurd h
@@ -32,26 +33,28 @@ last_of-cons part (next ∷ parts) h = refl
 onto_ended : (c separator b : ℕ) (part : List ℕ) → onto_first c (ended_by separator b part) ≡ ended_by separator b (c ∷ part)
 onto_ended c separator b part =
     elim (b == separator) as (λ t. onto_first c (if t then part ∷ [] ∷ [] else (part ++ b ∷ []) ∷ []) ≡ (if t then (c ∷ part) ∷ [] ∷ [] else (c ∷ part ++ b ∷ []) ∷ [])) [
-      true ↦ refl
-    | false ↦ refl ]
+      | true ↦ refl
+      | false ↦ refl
+    ]
 
 onto_split : (c separator b : ℕ) (parts : List (List ℕ)) → IsSome_part parts
-  → onto_first c (but_last parts ++ ended_by separator b (last_of parts)) ≡ but_last (onto_first c parts) ++ ended_by separator b (last_of (onto_first c parts))
+    → onto_first c (but_last parts ++ ended_by separator b (last_of parts)) ≡ but_last (onto_first c parts) ++ ended_by separator b (last_of (onto_first c parts))
 onto_split c separator b [] h = absurd h
 onto_split c separator b (part ∷ []) h = onto_ended c separator b part
 onto_split c separator b (part ∷ next ∷ parts) h = refl
 
 -- one more byte ends the last part or grows it
 pub parts_of_push : (separator : ℕ) (bytes : List ℕ) (b : ℕ)
-  → parts_of separator (bytes ++ b ∷ []) ≡ but_last (parts_of separator bytes) ++ ended_by separator b (last_of (parts_of separator bytes))
+    → parts_of separator (bytes ++ b ∷ []) ≡ but_last (parts_of separator bytes) ++ ended_by separator b (last_of (parts_of separator bytes))
 parts_of_push separator [] b = refl
 parts_of_push separator (c ∷ bytes) b =
     let some = IsSome_part-parts_of separator bytes in
     let before : parts_of separator (bytes ++ b ∷ []) ≡ but_last (parts_of separator bytes) ++ ended_by separator b (last_of (parts_of separator bytes)) = parts_of_push separator bytes b in
     elim (c == separator) as (λ t. (if t then [] ∷ parts_of separator (bytes ++ b ∷ []) else onto_first c (parts_of separator (bytes ++ b ∷ [])))
-        ≡ but_last (if t then [] ∷ parts_of separator bytes else onto_first c (parts_of separator bytes)) ++ ended_by separator b (last_of (if t then [] ∷ parts_of separator bytes else onto_first c (parts_of separator bytes)))) [
-      true ↦ rw (but_last-cons [] (parts_of separator bytes) some, last_of-cons [] (parts_of separator bytes) some) (ap (λ ps. [] ∷ ps) before)
-    | false ↦ ap (onto_first c) before ∙ onto_split c separator b (parts_of separator bytes) some ]
+    ≡ but_last (if t then [] ∷ parts_of separator bytes else onto_first c (parts_of separator bytes)) ++ ended_by separator b (last_of (if t then [] ∷ parts_of separator bytes else onto_first c (parts_of separator bytes)))) [
+      | true ↦ rw (but_last-cons [] (parts_of separator bytes) some, last_of-cons [] (parts_of separator bytes) some) (ap (λ ps. [] ∷ ps) before)
+      | false ↦ ap (onto_first c) before ∙ onto_split c separator b (parts_of separator bytes) some
+    ]
 
 but_last_two : (parts : List (List ℕ)) (p q : List ℕ) → but_last (parts ++ p ∷ q ∷ []) ≡ parts ++ p ∷ []
 but_last_two [] p q = refl
@@ -75,22 +78,24 @@ last_of_two (part ∷ next ∷ parts) p q = last_of_two (next ∷ parts) p q
 
 -- all parts but the last, and the last, by one more byte
 pub but_last_by_byte : (separator : ℕ) (bytes : List ℕ) (b : ℕ)
-  → but_last (parts_of separator (bytes ++ b ∷ [])) ≡ (if b == separator then but_last (parts_of separator bytes) ++ last_of (parts_of separator bytes) ∷ [] else but_last (parts_of separator bytes))
+    → but_last (parts_of separator (bytes ++ b ∷ [])) ≡ (if b == separator then but_last (parts_of separator bytes) ++ last_of (parts_of separator bytes) ∷ [] else but_last (parts_of separator bytes))
 but_last_by_byte separator bytes b =
     rw (parts_of_push separator bytes b)
     (elim (b == separator) as (λ t. but_last (but_last (parts_of separator bytes) ++ (if t then last_of (parts_of separator bytes) ∷ [] ∷ [] else (last_of (parts_of separator bytes) ++ b ∷ []) ∷ []))
-        ≡ (if t then but_last (parts_of separator bytes) ++ last_of (parts_of separator bytes) ∷ [] else but_last (parts_of separator bytes))) [
-      true ↦ but_last_two (but_last (parts_of separator bytes)) (last_of (parts_of separator bytes)) []
-    | false ↦ but_last_push (but_last (parts_of separator bytes)) (last_of (parts_of separator bytes) ++ b ∷ []) ])
+    ≡ (if t then but_last (parts_of separator bytes) ++ last_of (parts_of separator bytes) ∷ [] else but_last (parts_of separator bytes))) [
+      | true ↦ but_last_two (but_last (parts_of separator bytes)) (last_of (parts_of separator bytes)) []
+      | false ↦ but_last_push (but_last (parts_of separator bytes)) (last_of (parts_of separator bytes) ++ b ∷ [])
+    ])
 
 pub last_of_by_byte : (separator : ℕ) (bytes : List ℕ) (b : ℕ)
-  → last_of (parts_of separator (bytes ++ b ∷ [])) ≡ (if b == separator then [] else last_of (parts_of separator bytes) ++ b ∷ [])
+    → last_of (parts_of separator (bytes ++ b ∷ [])) ≡ (if b == separator then [] else last_of (parts_of separator bytes) ++ b ∷ [])
 last_of_by_byte separator bytes b =
     rw (parts_of_push separator bytes b)
     (elim (b == separator) as (λ t. last_of (but_last (parts_of separator bytes) ++ (if t then last_of (parts_of separator bytes) ∷ [] ∷ [] else (last_of (parts_of separator bytes) ++ b ∷ []) ∷ []))
-        ≡ (if t then [] else last_of (parts_of separator bytes) ++ b ∷ [])) [
-      true ↦ last_of_two (but_last (parts_of separator bytes)) (last_of (parts_of separator bytes)) []
-    | false ↦ last_of_push (but_last (parts_of separator bytes)) (last_of (parts_of separator bytes) ++ b ∷ []) ])
+    ≡ (if t then [] else last_of (parts_of separator bytes) ++ b ∷ [])) [
+      | true ↦ last_of_two (but_last (parts_of separator bytes)) (last_of (parts_of separator bytes)) []
+      | false ↦ last_of_push (but_last (parts_of separator bytes)) (last_of (parts_of separator bytes) ++ b ∷ [])
+    ])
 
 -- how many parts but the last there are, with the length of the last
 abbrev weight : List (List ℕ) → ℕ
@@ -108,5 +113,6 @@ parts_of-le separator (b ∷ bytes) =
     let some = IsSome_part-parts_of separator bytes in
     let before : weight (parts_of separator bytes) ≤ length bytes = parts_of-le separator bytes in
     elim (b == separator) as (λ t. weight (if t then [] ∷ parts_of separator bytes else onto_first b (parts_of separator bytes)) ≤ length (b ∷ bytes)) [
-      true ↦ rw (but_last-cons [] (parts_of separator bytes) some, last_of-cons [] (parts_of separator bytes) some) (omega arith)
-    | false ↦ omega (arith, weight-onto_first b (parts_of separator bytes) some) ]
+      | true ↦ rw (but_last-cons [] (parts_of separator bytes) some, last_of-cons [] (parts_of separator bytes) some) (omega arith)
+      | false ↦ omega (arith, weight-onto_first b (parts_of separator bytes) some)
+    ]

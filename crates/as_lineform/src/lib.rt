@@ -4,6 +4,7 @@
 mod answer;
 mod cutter;
 mod item;
+mod number;
 
 pub use answer::answer_text;
 pub use cutter::{Lines, Step};
