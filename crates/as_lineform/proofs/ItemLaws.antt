@@ -14,7 +14,7 @@ use Rattle.as_base.specs.Range.{InRange, IsTime}
 use Rattle.as_lineform.specs.declared.item.TheConstants.{LINE_MAX}
 use Rattle.as_lineform.specs.Parts.{parts_of}
 use Rattle.as_lineform.specs.Number.{natural, integer}
-use Rattle.as_lineform.specs.Item.{◌>>=◌, given_of, record_item, mark_item, item_of_words, item_of_line, IsTaken}
+use Rattle.as_lineform.specs.Item.{◌>>=◌, given_of, time_of, record_item, mark_item, item_of_words, item_of_line, IsTaken}
 
 if_has : {X : Type 0} (P : X → Type 0) (b : Bool) (x y : X) → P x → P y → P (if b then x else y)
 if_has P true x y h k = h
@@ -64,9 +64,12 @@ later-Good = (tt, refl)
 record_item-Good : (fields : List (List ℕ)) → Good (record_item A fields)
 record_item-Good fields = map_or_has (Fits A) Good (given_of A fields) Rec (Bad Later) (given_of-Fits A fields) (λ g h. h) later-Good
 
+time_of-lt : (fields : List (List ℕ)) → IfSome (time_of fields) (λ t. t < FOREVER)
+time_of-lt (time ∷ []) = natural-lt FOREVER time
+time_of-lt _ = tt
+
 mark_item-Good : (fields : List (List ℕ)) → Good (mark_item A fields)
-mark_item-Good (time ∷ []) = map_or_has (λ t. t < FOREVER) Good (natural FOREVER time) (Mark A) (Bad Later) (natural-lt FOREVER time) (λ t h. (h, refl)) later-Good
-mark_item-Good _ = later-Good
+mark_item-Good fields = map_or_has (λ t. t < FOREVER) Good (time_of fields) (Mark A) (Bad Later) (time_of-lt fields) (λ t h. (h, refl)) later-Good
 
 item_of_words-Good : (words : List (List ℕ)) → Good (item_of_words words)
 item_of_words-Good (form ∷ stream ∷ fields) =
@@ -84,3 +87,10 @@ InRange-item_of_line line = (item_of_line-Good line).0
 
 pub IsTaken-item_of_line : (line : List ℕ) → IsTaken (item_of_line line)
 IsTaken-item_of_line line = (item_of_line-Good line).1
+
+-- what the words of a line say, in either spelling
+pub InRange-item_of_words : (words : List (List ℕ)) → InRange (item_of_words words)
+InRange-item_of_words words = (item_of_words-Good words).0
+
+pub IsTaken-item_of_words : (words : List (List ℕ)) → IsTaken (item_of_words words)
+IsTaken-item_of_words words = (item_of_words-Good words).1

@@ -2,3 +2,4 @@ pub mod PartLaws
 pub mod ItemLaws
 pub mod LineLaws
 mod NumberLaws
+mod ReadingLaws

@@ -134,6 +134,18 @@ integer-None word none =
     absurd (none z (mag-lt z one.1 two.1) (sym ((bytes_eq-Decides (signed_decimal z) word).0 one.0))))
     (λ h. refl)
 
+-- a number that was read fits
+pub integer-fits : (word : List ℕ) (z : ℤ) → integer word ≡ Some z → mag z < 2 ^ 63
+integer-fits word z =
+    let y : ℤ = signed_digits_value 10 word in
+    cond_both (is_spelled y word) (Some y) None (λ o. o ≡ Some z → mag z < 2 ^ 63)
+    (λ h e. let two = and_parts (bytes_eq (signed_decimal y) word && int_lt (negsuc (2 ^ 63)) y) (int_lt y (pos (2 ^ 63))) h in
+          let one = and_parts (bytes_eq (signed_decimal y) word) (int_lt (negsuc (2 ^ 63)) y) two.0 in
+          let same : y ≡ z = cc e in
+          let Small : ℤ → Type 0 = λ x. mag x < 2 ^ 63 in
+          subst Small same (mag-lt y one.1 two.1))
+    (λ h e. cc e)
+
 pub integer-Some : (z : ℤ) (word : List ℕ) → mag z < 2 ^ 63 → word ≡ signed_decimal z → integer word ≡ Some z
 integer-Some z word h e =
     let v : signed_digits_value 10 word ≡ z = ap (signed_digits_value 10) e ∙ value-signed_decimal z h in

@@ -1,4 +1,9 @@
-use Rattle.std.proofs.Common.{◌≡◌, ℕ, ◌+◌, ◌≤◌, ◌==◌, if◌then◌else◌, Bool, true, false, cond, List, [], ◌∷◌, ◌++◌, length, refl, sym, ap, ◌∙◌, arith}
+use Rattle.std.proofs.Common.{◌≡◌, ℕ, zero, suc, ◌<◌, Option, Some, None, position, get_or, take, drop, add-one, ◌+◌, ◌≤◌, ◌==◌, if◌then◌else◌, Bool, true, false, cond, List, [], ◌∷◌, ◌++◌, length, refl, sym, ap, ◌∙◌, arith}
+use Rattle.std.specs.List.{position_or_len}
+use Rattle.std.specs.Prelude.{nat_lt}
+use Rattle.std.proofs.lemmas.Bool.{cond-true, cond-false, eq-eqb, eqb-true, cond_both, ltb-false}
+use Rattle.std.proofs.lemmas.List.Quantifiers.{position-Some}
+use Rattle.std.proofs.lemmas.List.Sums.{fails_before_first}
 use Rattle.as_lineform.specs.Parts.{onto_first, parts_of, but_last, last_of}
 
 -- at least one part
@@ -116,3 +121,32 @@ parts_of-le separator (b ∷ bytes) =
       | true ↦ rw (but_last-cons [] (parts_of separator bytes) some, last_of-cons [] (parts_of separator bytes) some) (omega arith)
       | false ↦ omega (arith, weight-onto_first b (parts_of separator bytes) some)
     ]
+
+parts_at : (separator : ℕ) (bytes : List ℕ) (i : ℕ) → i < length bytes → get_or bytes i 0 ≡ separator → ((k : ℕ) → k < i → (get_or bytes k 0 == separator) ≡ false)
+  → parts_of separator bytes ≡ take i bytes ∷ parts_of separator (drop (suc i) bytes)
+parts_at separator [] i l e before = absurd (omega arith)
+parts_at separator (b ∷ bytes) zero l e before = cond-true (b == separator) ([] ∷ parts_of separator bytes) (onto_first b (parts_of separator bytes)) (eq-eqb b separator e)
+parts_at separator (b ∷ bytes) (suc i) l e before =
+    cond-false (b == separator) ([] ∷ parts_of separator bytes) (onto_first b (parts_of separator bytes)) (before 0 (omega arith))
+    ∙ ap (onto_first b) (parts_at separator bytes i (omega arith) e (λ k h. before (suc k) (omega arith)))
+
+-- the parts around the first separator
+pub parts_of-Some : (separator : ℕ) (bytes : List ℕ) (i : ℕ) → position (λ b. b == separator) bytes ≡ Some i
+  → (i < length bytes) × (parts_of separator bytes ≡ take i bytes ∷ parts_of separator (drop (i + 1) bytes))
+parts_of-Some separator bytes i e =
+    let first = position-Some (λ b. b == separator) bytes i 0 e in
+    (first.0, rw add-one (parts_at separator bytes i first.0 (eqb-true (get_or bytes i 0) separator first.1) first.2))
+
+parts_alone : (separator : ℕ) (bytes : List ℕ) → ((k : ℕ) → k < length bytes → (get_or bytes k 0 == separator) ≡ false) → parts_of separator bytes ≡ bytes ∷ []
+parts_alone separator [] none = refl
+parts_alone separator (b ∷ bytes) none =
+    cond-false (b == separator) ([] ∷ parts_of separator bytes) (onto_first b (parts_of separator bytes)) (none 0 (omega arith))
+    ∙ ap (onto_first b) (parts_alone separator bytes (λ k h. none (suc k) (omega arith)))
+
+-- the one part where there is no separator
+pub parts_of-None : (separator : ℕ) (bytes : List ℕ) → position (λ b. b == separator) bytes ≡ None → parts_of separator bytes ≡ bytes ∷ []
+parts_of-None separator bytes =
+    let first : ℕ = position_or_len (λ b. b == separator) bytes in
+    cond_both (nat_lt first (length bytes)) (Some first) None (λ o. o ≡ None → parts_of separator bytes ≡ bytes ∷ [])
+    (λ h e. cc e)
+    (λ h e. parts_alone separator bytes (λ k l. fails_before_first (λ b. b == separator) bytes k 0 (omega (arith, l, ltb-false first (length bytes) h))))

@@ -1,4 +1,4 @@
-use Rattle.std.specs.Prelude.{ℕ, ◌≡◌, nat_le, if◌then◌else◌, Option, Some, None, List, [], ◌∷◌, length}
+use Rattle.std.specs.Prelude.{ℕ, ◌≡◌, nat_le, if◌then◌else◌, Option, Some, None, List, [], ◌∷◌, ◌++◌, length}
 use Rattle.as_base.specs.declared.item.Cause.TheVariants.{Later}
 use Rattle.as_base.specs.declared.item.Item.{Item}
 use Rattle.as_base.specs.declared.item.Item.TheVariants.{Bad}
@@ -12,6 +12,11 @@ use Rattle.as_lineform.specs.Lines.{rest}
 -- what a cutter keeps of a line: the line, or nothing where it is longer than a line may be
 abbrev pub kept : List ℕ → Option (List ℕ)
 kept line = if nat_le (length line) LINE_MAX then Some line else None
+
+-- what a cutter keeps with one more byte of the line
+abbrev pub kept_more : Option (List ℕ) → ℕ → Option (List ℕ)
+kept_more (Some line) b = kept (line ++ b ∷ [])
+kept_more None b = None
 
 -- the item of a line of which this was kept
 abbrev pub item_of_kept : Option (List ℕ) → Item

@@ -31,9 +31,13 @@ given_of stream _ = None
 abbrev pub record_item : StreamId → List (List ℕ) → Item
 record_item stream fields = option_map_or Rec (given_of stream fields) (Bad Later)
 
+-- the time that the one word spells
+abbrev pub time_of : List (List ℕ) → Option ℕ
+time_of (time ∷ []) = natural FOREVER time
+time_of _ = None
+
 abbrev pub mark_item : StreamId → List (List ℕ) → Item
-mark_item stream (time ∷ []) = option_map_or (Mark stream) (natural FOREVER time) (Bad Later)
-mark_item stream _ = Bad Later
+mark_item stream fields = option_map_or (Mark stream) (time_of fields) (Bad Later)
 
 -- the item of a line's words
 abbrev pub item_of_words : List (List ℕ) → Item

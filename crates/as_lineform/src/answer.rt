@@ -1,13 +1,83 @@
-ghost use Rattle.std.specs.Prelude.{◌≡◌, ◌++◌, OnOk, OnErr};
-ghost use Rattle.as_lineform.specs.Answer.{text_of};
+ghost use Rattle.std.specs.Prelude.{◌≡◌, ◌++◌, codes, decimal, OnOk, OnErr};
+ghost use Rattle.as_lineform.specs.Answer.{word_text, text_of, Grows};
 
-use as_base::{Answer, NoMemory};
+use as_base::{Answer, NoMemory, Word};
+use itoa::Buffer;
+use std::alloc::AllocError;
 
 /// Appends the text of an answer, with its line feed. The one refusal is `NoMemory`, after which `out` is unchanged.
 pub fn answer_text(a: &Answer, out: &mut Vec<u8>) -> Result<(), NoMemory>
     ensures ok { OnOk result (out.new.items ≡ out.old.items ++ text_of a.now) }
     ensures err { OnErr result (out.new.items ≡ out.old.items) }
 {
-    let _ = (a, out);
-    Err(NoMemory)
+    let start = out.len();
+    match append_answer(a, &mut *out) {
+        Ok(()) => Ok(()),
+        Err(_) => {
+            out.truncate(start);
+            Err(NoMemory)
+        }
+    }
+}
+
+/// Appends the text of an answer, or some front of it.
+fn append_answer(a: &Answer, out: &mut Vec<u8>) -> Result<(), AllocError>
+    ensures ok { OnOk result (out.new.items ≡ out.old.items ++ text_of a.now) }
+    ensures err { OnErr result (Grows out.old.items out.new.items) }
+{
+    append_number(a.line, &mut *out)?;
+    out.extend_from_slice(b" ")?;
+    append_word(a.word, &mut *out)?;
+    out.extend_from_slice(b"\n")
+}
+
+/// Appends the text of a word, or some front of it.
+fn append_word(word: Word, out: &mut Vec<u8>) -> Result<(), AllocError>
+    ensures ok { OnOk result (out.new.items ≡ out.old.items ++ word_text word) }
+    ensures err { OnErr result (Grows out.old.items out.new.items) }
+{
+    match word {
+        Word::Created { n, at } => append_event(b"created ", n, at, out),
+        Word::Deleted { n, at } => append_event(b"deleted ", n, at, out),
+        Word::Long => out.extend_from_slice(b"long"),
+        Word::Form => out.extend_from_slice(b"form"),
+        Word::Stranger => out.extend_from_slice(b"stranger"),
+        Word::Ended => out.extend_from_slice(b"ended"),
+        Word::Late => out.extend_from_slice(b"late"),
+        Word::Back => out.extend_from_slice(b"back"),
+        Word::Syntax(k) => append_syntax(k, out),
+        Word::Twin => out.extend_from_slice(b"twin"),
+        Word::Window => out.extend_from_slice(b"window"),
+        Word::Full => out.extend_from_slice(b"full"),
+        Word::Unknown => out.extend_from_slice(b"unknown"),
+        Word::Later => out.extend_from_slice(b"later"),
+    }
+}
+
+/// Appends what happened to a query and when, or some front of it.
+fn append_event(event: &[u8], n: u64, at: u64, out: &mut Vec<u8>) -> Result<(), AllocError>
+    ensures ok { OnOk result (out.new.items ≡ out.old.items ++ event.now ++ decimal n ++ codes " at " ++ decimal at) }
+    ensures err { OnErr result (Grows out.old.items out.new.items) }
+{
+    out.extend_from_slice(event)?;
+    append_number(n, &mut *out)?;
+    out.extend_from_slice(b" at ")?;
+    append_number(at, out)
+}
+
+/// Appends where a query text is outside the grammar, or some front of it.
+fn append_syntax(k: u32, out: &mut Vec<u8>) -> Result<(), AllocError>
+    ensures ok { OnOk result (out.new.items ≡ out.old.items ++ codes "syntax " ++ decimal k) }
+    ensures err { OnErr result (Grows out.old.items out.new.items) }
+{
+    out.extend_from_slice(b"syntax ")?;
+    append_number(u64::from(k), out)
+}
+
+/// Appends a number in decimal.
+fn append_number(n: u64, out: &mut Vec<u8>) -> Result<(), AllocError>
+    ensures ok { OnOk result (out.new.items ≡ out.old.items ++ decimal n) }
+    ensures err { OnErr result (out.new.items ≡ out.old.items) }
+{
+    out.extend_from_slice(Buffer::new().format(n).as_bytes())
 }

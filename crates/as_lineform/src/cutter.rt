@@ -1,10 +1,12 @@
-ghost use Rattle.std.specs.Prelude.{◌≡◌, List, ℕ, [], ◌∷◌, ◌++◌, Option, Some, IfOk, OnErr};
+ghost use Rattle.std.specs.Prelude.{◌≡◌, List, ℕ, [], ◌∷◌, ◌++◌, Option, Some, IfOk, IfSome, IsTrue, ◌↔◌, OnErr};
 ghost use Rattle.std.specs.Option.{option_to_list};
-ghost use Rattle.as_lineform.specs.Item.{IsCreation};
+ghost use Rattle.as_base.specs.Range.{InRange};
+ghost use Rattle.as_lineform.specs.Item.{IsCreation, IsTaken};
 ghost use Rattle.as_lineform.specs.Lines.{lines, items};
-ghost use Rattle.as_lineform.specs.Cutter.{HasRead, items_in, item_of_kept, StepInRange};
+ghost use Rattle.as_lineform.specs.Cutter.{HasRead, kept_more, items_in, item_of_kept, StepInRange, StepIsTaken};
 
-use as_base::{Item, NoMemory};
+use crate::item::{LINE_MAX, item_of};
+use as_base::{Cause, Item, NoMemory};
 use std::alloc::Global;
 use std::marker::Model;
 
@@ -27,11 +29,14 @@ pub struct Lines {
 }
 
 impl Model for Lines {
-    ghost use Rattle.std.specs.Prelude.{List, ℕ, Option, Some, None, if◌then◌else◌};
+    ghost use Rattle.std.specs.Prelude.{List, ℕ, Option, Some, None, ◌≤◌, if◌then◌else◌, vec_len, vec_capacity};
+    ghost use Rattle.as_lineform.specs.declared.item.TheConstants.{LINE_MAX};
 
     ghost Value = { Option (List ℕ) };
 
     ghost view = { λ c. if c.is_long then None else Some c.line.items };
+
+    ghost invariant = { λ c. (vec_len c.line ≤ LINE_MAX) × (LINE_MAX ≤ vec_capacity c.line) };
 }
 
 impl Lines {
@@ -39,8 +44,12 @@ impl Lines {
     pub fn new(alloc: Global) -> Result<Lines, NoMemory>
         ensures { IfOk result (λ cutter. HasRead cutter []) }
     {
-        let _ = alloc;
-        Err(NoMemory)
+        let line = Vec::with_capacity(alloc, LINE_MAX)?;
+        Ok(Lines {
+            alloc,
+            line,
+            is_long: false,
+        })
     }
 
     /// Takes one byte. `NoMemory` comes only at the line feed of a creation, leaves the cutter as it was, and the byte
@@ -49,11 +58,17 @@ impl Lines {
         ensures reads { (bytes : List ℕ) → HasRead self.old bytes → IfOk result (λ step.
             HasRead self.new (bytes ++ byte ∷ []) × (lines (bytes ++ byte ∷ []) ≡ lines bytes ++ items_in step)) }
         ensures range { IfOk result StepInRange }
+        ensures taken { IfOk result StepIsTaken }
         ensures cause { OnErr result ((byte ≡ 10) × IsCreation (item_of_kept self.old)) }
         ensures err { OnErr result (self.new ≡ self.old) }
     {
-        let _ = byte;
-        Err(NoMemory)
+        if byte == b'\n' {
+            let item = self.item()?;
+            self.clear();
+            return Ok(Step::Line(item));
+        }
+        self.keep(byte);
+        Ok(Step::More)
     }
 
     /// The item of the last line, if it has a byte; the cutter is empty then. `NoMemory` comes only for a creation, and
@@ -61,9 +76,53 @@ impl Lines {
     pub fn finish(&mut self) -> Result<Option<Item>, NoMemory>
         ensures reads { (bytes : List ℕ) → HasRead self.old bytes → IfOk result (λ last.
             HasRead self.new [] × (items bytes ≡ lines bytes ++ option_to_list last)) }
+        ensures range { IfOk result (λ last. IfSome last InRange) }
+        ensures taken { IfOk result (λ last. IfSome last IsTaken) }
         ensures cause { OnErr result (IsCreation (item_of_kept self.old)) }
         ensures err { OnErr result (self.new ≡ self.old) }
     {
-        Err(NoMemory)
+        if self.is_empty() {
+            return Ok(None);
+        }
+        let item = self.item()?;
+        self.clear();
+        Ok(Some(item))
+    }
+
+    /// The line has no byte yet.
+    fn is_empty(&self) -> bool
+        ensures { IsTrue result ↔ (self.now ≡ Some []) }
+    {
+        !self.is_long && self.line.is_empty()
+    }
+
+    /// The item of the line, as if it ended here.
+    fn item(&self) -> Result<Item, NoMemory>
+        ensures item { IfOk result (λ item. item ≡ item_of_kept self.now) }
+        ensures cause { OnErr result (IsCreation (item_of_kept self.now)) }
+    {
+        if self.is_long {
+            return Ok(Item::Bad(Cause::Later));
+        }
+        item_of(self.alloc, self.line.as_slice())
+    }
+
+    /// Begins a new line.
+    fn clear(&mut self)
+        ensures { self.new ≡ Some [] }
+    {
+        self.line.clear();
+        self.is_long = false;
+    }
+
+    /// Adds a byte to the line, in the room that stands ready, or notes that there are too many.
+    fn keep(&mut self, byte: u8)
+        ensures { self.new ≡ kept_more self.old byte }
+    {
+        if self.line.len() < LINE_MAX {
+            self.line.push_reserved(byte);
+        } else {
+            self.is_long = true;
+        }
     }
 }

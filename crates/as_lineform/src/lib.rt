@@ -5,6 +5,7 @@ mod answer;
 mod cutter;
 mod item;
 mod number;
+mod words;
 
 pub use answer::answer_text;
 pub use cutter::{Lines, Step};
