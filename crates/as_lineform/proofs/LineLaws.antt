@@ -1,9 +1,8 @@
-use Rattle.std.proofs.Common.{◌≡◌, ℕ, ◌+◌, ◌≤◌, ◌==◌, if◌then◌else◌, Bool, true, false, List, [], ◌∷◌, ◌++◌, map, length, refl, sym, ap, ◌∙◌, arith, append_assoc, append-nil, length-append}
+use Rattle.std.proofs.Common.{◌≡◌, ℕ, ◌≤◌, ◌==◌, if◌then◌else◌, true, false, List, [], ◌∷◌, ◌++◌, map, length, sym, ap, ◌∙◌, arith, append_assoc, append-nil, length-append}
 use Rattle.std.proofs.lemmas.List.{map-append, length-map}
 use Rattle.std.specs.List.{AllByRecursion}
 use Rattle.as_base.specs.declared.item.Item.{Item}
 use Rattle.as_base.specs.Range.{InRange}
-use Rattle.as_lineform.specs.Parts.{parts_of, but_last, last_of}
 use Rattle.as_lineform.specs.Item.{item_of_line, IsTaken}
 use Rattle.as_lineform.specs.Lines.{whole, rest, lines, last_item, items}
 use Rattle.as_lineform.proofs.PartLaws.{but_last_by_byte, last_of_by_byte, parts_of-le}

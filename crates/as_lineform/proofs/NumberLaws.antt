@@ -1,10 +1,10 @@
-use Rattle.std.proofs.Common.{◌≡◌, ℕ, zero, suc, ◌+◌, ◌*◌, ◌^◌, ◌<◌, ◌≤◌, ◌&&◌, Bool, true, false, cond, if◌then◌else◌, Option, Some, None, List, [], ◌∷◌, ◌++◌, length, take, get_or, refl, sym, ap, ap₂, true≢false, ◌∙◌, subst, arith, bytes_eq, nat_lt, decimal, Decides, ℤ, pos, negsuc, neg_ℤ, int_lt, SomeIff, eq-zero-or-pos, slice_get, inl, inr, ◌≢◌, slice_index, ◌==◌, drop, eqb}
+use Rattle.std.proofs.Common.{◌≡◌, ℕ, zero, suc, ◌+◌, ◌*◌, ◌^◌, ◌<◌, ◌≤◌, ◌&&◌, Bool, true, false, if◌then◌else◌, Option, Some, None, List, [], ◌∷◌, length, take, get_or, refl, sym, ap, ap₂, true≢false, ◌∙◌, subst, arith, bytes_eq, nat_lt, decimal, ℤ, pos, negsuc, neg_ℤ, int_lt, SomeIff, eq-zero-or-pos, slice_get, inl, inr, ◌≢◌, slice_index, ◌==◌, drop, eqb}
 use Rattle.std.specs.Char.{digit_value}
 use Rattle.std.specs.Int.{IsInRange}
 use Rattle.std.specs.Cmp.Lexicographic.{pointwise}
 use Rattle.std.specs.Fmt.{signed_decimal, digits}
-use Rattle.std.specs.Str.Parse.{AllDigits, digits_value, signed_digits_value, starts_with_minus, without_leading_sign, without_leading_plus}
-use Rattle.std.proofs.lemmas.Bool.{cond_both, cond-true, and_parts, and_from, ltb-true, lt-ltb, eqb-true, eq-eqb, ne_eqb, cond-false}
+use Rattle.std.specs.Str.Parse.{AllDigits, digits_value, signed_digits_value}
+use Rattle.std.proofs.lemmas.Bool.{cond_both, cond-true, and_parts, and_from, ltb-true, lt-ltb, eqb-true, ne_eqb}
 use Rattle.std.proofs.lemmas.Fmt.{decimal_digit, decimal_nonempty, first_decimal, digits_decimal, digits_value-decimal, decimal-digits_value, decimal_injective}
 use Rattle.std.proofs.lemmas.Int.Digits.{digits_value_more}
 use Rattle.std.proofs.lemmas.Slice.Eq.{bytes_eq-Decides}
@@ -140,10 +140,10 @@ integer-fits word z =
     let y : ℤ = signed_digits_value 10 word in
     cond_both (is_spelled y word) (Some y) None (λ o. o ≡ Some z → mag z < 2 ^ 63)
     (λ h e. let two = and_parts (bytes_eq (signed_decimal y) word && int_lt (negsuc (2 ^ 63)) y) (int_lt y (pos (2 ^ 63))) h in
-          let one = and_parts (bytes_eq (signed_decimal y) word) (int_lt (negsuc (2 ^ 63)) y) two.0 in
-          let same : y ≡ z = cc e in
-          let Small : ℤ → Type 0 = λ x. mag x < 2 ^ 63 in
-          subst Small same (mag-lt y one.1 two.1))
+    let one = and_parts (bytes_eq (signed_decimal y) word) (int_lt (negsuc (2 ^ 63)) y) two.0 in
+    let same : y ≡ z = cc e in
+    let Small : ℤ → Type 0 = λ x. mag x < 2 ^ 63 in
+    subst Small same (mag-lt y one.1 two.1))
     (λ h e. cc e)
 
 pub integer-Some : (z : ℤ) (word : List ℕ) → mag z < 2 ^ 63 → word ≡ signed_decimal z → integer word ≡ Some z

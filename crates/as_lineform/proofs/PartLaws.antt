@@ -1,4 +1,4 @@
-use Rattle.std.proofs.Common.{◌≡◌, ℕ, zero, suc, ◌<◌, Option, Some, None, position, get_or, take, drop, add-one, ◌+◌, ◌≤◌, ◌==◌, if◌then◌else◌, Bool, true, false, cond, List, [], ◌∷◌, ◌++◌, length, refl, sym, ap, ◌∙◌, arith}
+use Rattle.std.proofs.Common.{◌≡◌, ℕ, zero, suc, ◌<◌, Some, None, position, get_or, take, drop, add-one, ◌+◌, ◌≤◌, ◌==◌, if◌then◌else◌, true, false, List, [], ◌∷◌, ◌++◌, length, refl, ap, ◌∙◌, arith}
 use Rattle.std.specs.List.{position_or_len}
 use Rattle.std.specs.Prelude.{nat_lt}
 use Rattle.std.proofs.lemmas.Bool.{cond-true, cond-false, eq-eqb, eqb-true, cond_both, ltb-false}
@@ -123,7 +123,7 @@ parts_of-le separator (b ∷ bytes) =
     ]
 
 parts_at : (separator : ℕ) (bytes : List ℕ) (i : ℕ) → i < length bytes → get_or bytes i 0 ≡ separator → ((k : ℕ) → k < i → (get_or bytes k 0 == separator) ≡ false)
-  → parts_of separator bytes ≡ take i bytes ∷ parts_of separator (drop (suc i) bytes)
+    → parts_of separator bytes ≡ take i bytes ∷ parts_of separator (drop (suc i) bytes)
 parts_at separator [] i l e before = absurd (omega arith)
 parts_at separator (b ∷ bytes) zero l e before = cond-true (b == separator) ([] ∷ parts_of separator bytes) (onto_first b (parts_of separator bytes)) (eq-eqb b separator e)
 parts_at separator (b ∷ bytes) (suc i) l e before =
@@ -132,7 +132,7 @@ parts_at separator (b ∷ bytes) (suc i) l e before =
 
 -- the parts around the first separator
 pub parts_of-Some : (separator : ℕ) (bytes : List ℕ) (i : ℕ) → position (λ b. b == separator) bytes ≡ Some i
-  → (i < length bytes) × (parts_of separator bytes ≡ take i bytes ∷ parts_of separator (drop (i + 1) bytes))
+    → (i < length bytes) × (parts_of separator bytes ≡ take i bytes ∷ parts_of separator (drop (i + 1) bytes))
 parts_of-Some separator bytes i e =
     let first = position-Some (λ b. b == separator) bytes i 0 e in
     (first.0, rw add-one (parts_at separator bytes i first.0 (eqb-true (get_or bytes i 0) separator first.1) first.2))

@@ -1,4 +1,4 @@
-use Rattle.std.proofs.Common.{◌≡◌, ◌↔◌, ℕ, ℤ, Bool, true, false, Option, Some, None, List, [], ◌∷◌, length, refl, sym, ap, ◌∙◌, true≢false, is_some, not, option_map}
+use Rattle.std.proofs.Common.{◌≡◌, ◌↔◌, ℕ, ℤ, Bool, true, false, Option, Some, None, List, [], ◌∷◌, refl, sym, ap, ◌∙◌, is_some, not, option_map}
 use Rattle.std.specs.Bool.{IsTrue, then_some}
 use denote.Ref.{Bor}
 use Rattle.as_base.specs.declared.item.TheConstants.{FOREVER}
@@ -51,14 +51,14 @@ map_some {X} {Y} (Some y) words p e =
 
 -- the word that was read, and the words after it
 pub next_by-Some : {X : Type 0} (f : List ℕ → Option X) (words : List (List ℕ)) (p : X × List (List ℕ)) → next_by f words ≡ Some p
-  → (word : List ℕ) × (words ≡ word ∷ p.1) × (f word ≡ Some p.0)
+    → (word : List ℕ) × (words ≡ word ∷ p.1) × (f word ≡ Some p.0)
 next_by-Some f [] p e = cc e
 next_by-Some f (word ∷ words) p e =
     let s = map_some (f word) words p e in
     (word, ap (λ ws. word ∷ ws) s.1, s.0)
 
 after_next : {X Y : Type 0} (f : List ℕ → Option X) (words : List (List ℕ)) (k : X × List (List ℕ) → Option Y) (y : Y) → (next_by f words >>= k) ≡ Some y
-  → (word : List ℕ) × (p : X × List (List ℕ)) × (words ≡ word ∷ p.1) × (k p ≡ Some y)
+    → (word : List ℕ) × (p : X × List (List ℕ)) × (words ≡ word ∷ p.1) × (k p ≡ Some y)
 after_next f words k y e =
     let s = bind_some (next_by f words) k y e in
     let n = next_by-Some f words s.0 s.1 in
@@ -66,7 +66,7 @@ after_next f words k y e =
 
 -- the four words of four numbers
 pub next_four-Some : (words : List (List ℕ)) (v : List ℤ) (left : List (List ℕ)) → next_four words ≡ Some (v, left)
-  → (a b c d : List ℕ) × (words ≡ a ∷ b ∷ c ∷ d ∷ left)
+    → (a b c d : List ℕ) × (words ≡ a ∷ b ∷ c ∷ d ∷ left)
 next_four-Some words v left e =
     let w1 = after_next integer words _ (v, left) e in
     let w2 = after_next integer w1.1.1 _ (v, left) w1.3 in
@@ -92,7 +92,7 @@ next_four-four a b c d left =
     bind_map (integer d) (λ x. (x, left)) _)))
 
 four_then-bind : {Y : Type 0} (a b c d : List ℕ) (left : List (List ℕ)) (k : List ℤ → Option Y)
-  → (four_then {Y = List ℤ × List (List ℕ)} a b c d (λ v. Some (v, left)) >>= (λ p. k p.0)) ≡ four_then a b c d k
+    → (four_then {Y = List ℤ × List (List ℕ)} a b c d (λ v. Some (v, left)) >>= (λ p. k p.0)) ≡ four_then a b c d k
 four_then-bind a b c d left k =
     bind_bind (integer a) _ (λ p. k p.0) ∙ bind_same (integer a) _ _ (λ x1.
     bind_bind (integer b) _ (λ p. k p.0) ∙ bind_same (integer b) _ _ (λ x2.
@@ -104,11 +104,11 @@ abbrev pub made : StreamId → ℕ → ℤ → List ℤ → Given
 made stream time key v = record { stream = stream; time = time; key = key; v = v }
 
 given_of-exact : (stream : StreamId) (t k a b c d : List ℕ) (time : ℕ) (key : ℤ) → natural FOREVER t ≡ Some time → integer k ≡ Some key
-  → given_of stream (t ∷ k ∷ a ∷ b ∷ c ∷ d ∷ []) ≡ four_then a b c d (λ v. Some (made stream time key v))
+    → given_of stream (t ∷ k ∷ a ∷ b ∷ c ∷ d ∷ []) ≡ four_then a b c d (λ v. Some (made stream time key v))
 given_of-exact stream t k a b c d time key et ek = rw (et, ek) refl
 
 short : (stream : StreamId) (t k : List ℕ) (left : List (List ℕ)) (time : ℕ) (key : ℤ) → natural FOREVER t ≡ Some time → integer k ≡ Some key → next_four left ≡ None
-  → given_of stream (t ∷ k ∷ left) ≡ None
+    → given_of stream (t ∷ k ∷ left) ≡ None
 short stream t k [] time key et ek none = refl
 short stream t k (a ∷ []) time key et ek none = refl
 short stream t k (a ∷ b ∷ []) time key et ek none = refl
@@ -121,27 +121,27 @@ short stream t k (a ∷ b ∷ c ∷ d ∷ e ∷ left) time key et ek none = refl
 
 -- a record's words that end too early or are no numbers
 pub given_of-None : (stream : StreamId) (words : List (List ℕ)) (time : ℕ) (key : ℤ) (more left : List (List ℕ))
-  → next_by (natural FOREVER) words ≡ Some (time, more) → next_by integer more ≡ Some (key, left) → next_four left ≡ None → given_of stream words ≡ None
+    → next_by (natural FOREVER) words ≡ Some (time, more) → next_by integer more ≡ Some (key, left) → next_four left ≡ None → given_of stream words ≡ None
 given_of-None stream words time key more left et ek none =
     let t = next_by-Some (natural FOREVER) words (time, more) et in
     let k = next_by-Some integer more (key, left) ek in
     ap (given_of stream) (t.1 ∙ ap (λ ws. t.0 ∷ ws) k.1) ∙ short stream t.0 k.0 left time key t.2 k.2 none
 
 whole_or_long : (stream : StreamId) (t k a b c d : List ℕ) (time : ℕ) (key : ℤ) (v : List ℤ) (left : List (List ℕ)) (last : Bool)
-  → natural FOREVER t ≡ Some time → integer k ≡ Some key → next_four (a ∷ b ∷ c ∷ d ∷ left) ≡ Some (v, left) → IsTrue last ↔ (left ≡ [])
-  → then_some last (made stream time key v) ≡ given_of stream (t ∷ k ∷ a ∷ b ∷ c ∷ d ∷ left)
+    → natural FOREVER t ≡ Some time → integer k ≡ Some key → next_four (a ∷ b ∷ c ∷ d ∷ left) ≡ Some (v, left) → IsTrue last ↔ (left ≡ [])
+    → then_some last (made stream time key v) ≡ given_of stream (t ∷ k ∷ a ∷ b ∷ c ∷ d ∷ left)
 whole_or_long stream t k a b c d time key v [] last et ek some ends =
     ap (λ o. then_some o (made stream time key v)) (ends.1 refl)
     ∙ sym (given_of-exact stream t k a b c d time key et ek
-      ∙ sym (four_then-bind a b c d [] (λ w. Some (made stream time key w)))
-      ∙ ap (λ o. o >>= (λ p. Some (made stream time key p.0))) (sym (next_four-four a b c d []) ∙ some))
+    ∙ sym (four_then-bind a b c d [] (λ w. Some (made stream time key w)))
+    ∙ ap (λ o. o >>= (λ p. Some (made stream time key p.0))) (sym (next_four-four a b c d []) ∙ some))
 whole_or_long stream t k a b c d time key v (e ∷ left) true et ek some ends = cc (ends.0 refl)
 whole_or_long stream t k a b c d time key v (e ∷ left) false et ek some ends = refl
 
 -- a record's words, of which none is left, or some
 pub given_of-Some : (stream : StreamId) (words : List (List ℕ)) (time : ℕ) (key : ℤ) (v : List ℤ) (more four left : List (List ℕ)) (last : Bool)
-  → next_by (natural FOREVER) words ≡ Some (time, more) → next_by integer more ≡ Some (key, four) → next_four four ≡ Some (v, left) → IsTrue last ↔ (left ≡ [])
-  → then_some last (made stream time key v) ≡ given_of stream words
+    → next_by (natural FOREVER) words ≡ Some (time, more) → next_by integer more ≡ Some (key, four) → next_four four ≡ Some (v, left) → IsTrue last ↔ (left ≡ [])
+    → then_some last (made stream time key v) ≡ given_of stream words
 given_of-Some stream words time key v more four left last et ek ev ends =
     let t = next_by-Some (natural FOREVER) words (time, more) et in
     let k = next_by-Some integer more (key, four) ek in

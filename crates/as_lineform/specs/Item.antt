@@ -7,7 +7,7 @@ use Rattle.as_base.specs.declared.item.StreamId.TheVariants.{A}
 use Rattle.as_base.specs.declared.item.Given.{Given}
 use Rattle.as_base.specs.declared.item.Cause.TheVariants.{Later}
 use Rattle.as_base.specs.declared.item.Item.{Item}
-use Rattle.as_base.specs.declared.item.Item.TheVariants.{Rec, Mark, End, Create, Delete, Bad}
+use Rattle.as_base.specs.declared.item.Item.TheVariants.{Rec, Mark, Create, Bad}
 use Rattle.as_lineform.specs.declared.item.TheConstants.{LINE_MAX}
 use Rattle.as_lineform.specs.Parts.{parts_of}
 use Rattle.as_lineform.specs.Number.{natural, integer}

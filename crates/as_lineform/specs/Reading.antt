@@ -1,6 +1,6 @@
 -- What is read of the words that are left, with the words left after it.
 use Rattle.std.specs.Prelude.{ℕ, ℤ, ◌≡◌, Option, Some, None, List, [], ◌∷◌}
-use Rattle.std.specs.Option.{option_map, option_copied}
+use Rattle.std.specs.Option.{option_map}
 use denote.Ref.{Bor}
 use Rattle.as_lineform.specs.Parts.{parts_of}
 use Rattle.as_lineform.specs.Number.{integer}

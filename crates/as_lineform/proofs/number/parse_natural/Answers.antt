@@ -1,4 +1,4 @@
-use Rattle.std.proofs.Common.{◌≡◌, ◌^◌, get_or, length, sym, ◌∙◌, arith}
+use Rattle.std.proofs.Common.{sym, ◌∙◌, arith}
 use Rattle.as_lineform.proofs.NumberLaws.{natural-zero, natural-digits, first_is, none_first}
 use Rattle.as_lineform.proofs.number.parse_natural.Goals as goal
 use Rattle.as_lineform.proofs.number.parse_natural.Goals.{else-first-eq48-via-then-first-eq48+else-word-gt1, else-first-eq48-via-else-first-eq48}

@@ -1,5 +1,3 @@
-use Rattle.std.proofs.Common.{◌≡◌, ◌↔◌, List, ℕ, [], subst}
-use Rattle.std.specs.Bool.{IsTrue}
 use Rattle.as_lineform.proofs.ReadingLaws.{words_of-none}
 use Rattle.as_lineform.proofs.words.Words.is_empty.Goals as goal
 
