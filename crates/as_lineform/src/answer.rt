@@ -11,7 +11,7 @@ pub fn answer_text(a: &Answer, out: &mut Vec<u8>) -> Result<(), NoMemory>
     ensures err { OnErr result (out.new.items ≡ out.old.items) }
 {
     let start = out.len();
-    match append_answer(a, &mut *out) {
+    match append_answer(a, out) {
         Ok(()) => Ok(()),
         Err(_) => {
             out.truncate(start);
@@ -25,9 +25,9 @@ fn append_answer(a: &Answer, out: &mut Vec<u8>) -> Result<(), AllocError>
     ensures ok { OnOk result (out.new.items ≡ out.old.items ++ text_of a.now) }
     ensures err { OnErr result (Grows out.old.items out.new.items) }
 {
-    append_number(a.line, &mut *out)?;
+    append_number(a.line, out)?;
     out.extend_from_slice(b" ")?;
-    append_word(a.word, &mut *out)?;
+    append_word(a.word, out)?;
     out.extend_from_slice(b"\n")
 }
 
@@ -60,7 +60,7 @@ fn append_event(event: &[u8], n: u64, at: u64, out: &mut Vec<u8>) -> Result<(), 
     ensures err { OnErr result (Grows out.old.items out.new.items) }
 {
     out.extend_from_slice(event)?;
-    append_number(n, &mut *out)?;
+    append_number(n, out)?;
     out.extend_from_slice(b" at ")?;
     append_number(at, out)
 }

@@ -10,3 +10,6 @@ mod words;
 pub use answer::answer_text;
 pub use cutter::{Lines, Step};
 pub use item::{LINE_MAX, item_of};
+
+#[cfg(test)]
+mod tests;
