@@ -2,7 +2,7 @@
 use Rattle.std.specs.Prelude.{ℕ, ◌==◌, if◌then◌else◌, Bool, true, false, List, [], ◌∷◌, ◌++◌}
 use Rattle.std.specs.List.{flat_map, sum_by}
 use Rattle.as_outside.specs.declared.entry.Entry.{Entry}
-use Rattle.as_outside.specs.declared.entry.Entry.TheVariants.{Pulled, PullFailed, Said, SayFailed, Noted, NoteFailed, Begun, BeginFailed, Put, PutFailed}
+use Rattle.as_outside.specs.declared.entry.Entry.TheVariants.{Pulled, PullFailed, Said, SayFailed, Begun, BeginFailed, Put, PutFailed}
 
 abbrev pub pulled_by : Entry → List ℕ
 pulled_by (Pulled bytes) = bytes

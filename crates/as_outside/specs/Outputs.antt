@@ -2,7 +2,7 @@
 use Rattle.std.specs.Prelude.{ℕ, ◌≡◌, ◌<◌, ◌==◌, if◌then◌else◌, List, [], ◌∷◌}
 use Rattle.std.specs.List.{sum_by}
 use Rattle.as_outside.specs.declared.entry.Entry.{Entry}
-use Rattle.as_outside.specs.Log.{begins, puts, failures, failed_on, begun_by, put_by, held}
+use Rattle.as_outside.specs.Log.{begins, puts, failures, failed_on, held}
 use Rattle.as_outside.specs.Shelf.{IsFront}
 
 -- how often the number stands in the list
