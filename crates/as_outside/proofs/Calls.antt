@@ -1,8 +1,9 @@
 -- What several calls on a shelf or a desk do, one after another.
-use Rattle.std.proofs.Common.{ℕ, ◌≡◌, ◌≤◌, Option, None, Some, List, [], ◌++◌, refl, sym, ap, ◌∙◌, arith, append_assoc, append-nil, inl, inr, ⊎_elim}
+use Rattle.std.proofs.Common.{ℕ, ◌≡◌, ◌≤◌, Option, None, Some, List, [], ◌++◌, refl, sym, ap, ◌∙◌, arith, append_assoc, append-nil, take, drop, inl, inr, ⊎_elim}
 use Rattle.std.specs.Option.{option_map}
+use Rattle.std.proofs.lemmas.List.{take-append-drop}
 use Rattle.as_outside.specs.declared.entry.Entry.{Entry}
-use Rattle.as_outside.specs.Shelf.{Tells, Since, Rose, SameOutputs, OutputRose, Takes}
+use Rattle.as_outside.specs.Shelf.{IsFront, Tells, Since, Rose, SameOutputs, OutputRose, Takes}
 
 -- without a call the log stays
 pub tells_none : (x : Option (List Entry)) → Tells x x []
@@ -76,3 +77,16 @@ takes_told old new bytes before now takes was is =
 pub takes_was_told : (old new : Option (List ℕ)) (bytes before : List ℕ) → Takes old new bytes → old ≡ Some before → (now : List ℕ) × (new ≡ Some now) × (before ≡ bytes ++ now)
 takes_was_told old None bytes before takes was = absurd (cc)
 takes_was_told old (Some now) bytes before takes was = (now, refl, takes_told old (Some now) bytes before now takes was refl)
+
+-- the first elements are a front
+pub IsFront-take : (n : ℕ) (bytes : List ℕ) → IsFront (take n bytes) bytes
+IsFront-take n bytes = (drop n bytes, sym (take-append-drop n bytes))
+
+pub IsFront-all : (bytes : List ℕ) → IsFront bytes bytes
+IsFront-all bytes = ([], sym (append-nil bytes))
+
+pub IsFront-append : (front more : List ℕ) → IsFront front (front ++ more)
+IsFront-append front more = (more, refl)
+
+pub IsFront-after : (a b c : List ℕ) → IsFront a b → IsFront b c → IsFront a c
+IsFront-after a b c first second = (first.0 ++ second.0, second.1 ∙ ap (λ s. s ++ second.0) first.1 ∙ append_assoc a first.0 second.0)

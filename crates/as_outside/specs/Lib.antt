@@ -2,3 +2,5 @@ pub mod Log
 pub mod Shelf
 pub mod Outputs
 pub mod Report
+pub mod Script
+pub mod Memory
