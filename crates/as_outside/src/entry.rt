@@ -1,7 +1,7 @@
 use as_base::Bytes;
 
 /// One call on a shelf or a desk: which call it was, the bytes that were moved, and whether it failed.
-#[derive(Debug, Drop)]
+#[derive(Debug, PartialEq, Eq, Drop)]
 pub enum Entry {
     /// These bytes were pulled; none of them is the end of input.
     Pulled(Bytes),

@@ -1,4 +1,4 @@
-ghost use Rattle.std.specs.Prelude.{◌≡◌, ◌+◌, ℕ, List, Some, take, IfOk, IfSome};
+ghost use Rattle.std.specs.Prelude.{◌≡◌, ◌+◌, ℕ, List, [], Some, take, IfOk, IfSome};
 ghost use Rattle.as_outside.specs.Shelf.{IsFront, Rose};
 
 mod call_log;
@@ -49,8 +49,6 @@ fn first(bytes: &[u8], most: usize) -> &[u8]
 }
 
 impl MemDesk {
-    ghost use Rattle.as_outside.specs.Memory.{told_by};
-
     /// A desk with this input.
     ///
     /// The pulls move at most so many bytes as `cuts` says for each in turn, failed ones counted too; where it is used
@@ -64,7 +62,14 @@ impl MemDesk {
         input: Vec<u8>,
         cuts: Vec<usize>,
         fails: Vec<(u64, usize)>,
-    ) -> Result<MemDesk, NoMemory> {
+    ) -> Result<MemDesk, NoMemory>
+        ensures log { IfOk result (λ d. ⟦<MemDesk as Shelf>⟧.log d ≡ Some []) }
+        ensures left { IfOk result (λ d. ⟦<MemDesk as Shelf>⟧.left d ≡ Some input.items) }
+        ensures says { IfOk result (λ d. ⟦<MemDesk as Shelf>⟧.say_faults d ≡ 0) }
+        ensures notes { IfOk result (λ d. ⟦<MemDesk as Shelf>⟧.note_faults d ≡ 0) }
+        ensures pulls { IfOk result (λ d. ⟦<MemDesk as Shelf>⟧.pull_faults d ≡ 0) }
+        ensures outputs { IfOk result (λ d. (n : ℕ) → ⟦<MemDesk as Shelf>⟧.output_faults d n ≡ 0) }
+    {
         Ok(MemDesk {
             alloc,
             log: CallLog::new(alloc),
@@ -84,7 +89,7 @@ impl MemDesk {
 
     /// The calls so far; once the log is told no longer, those before.
     pub fn log(&self) -> &[Entry]
-        ensures { (told : List Entry) → told_by self.now.log ≡ Some told → result.now ≡ told }
+        ensures { (told : List Entry) → ⟦<MemDesk as Shelf>⟧.log self.now ≡ Some told → result.now ≡ told }
     {
         self.log.entries.as_slice()
     }

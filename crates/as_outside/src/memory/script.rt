@@ -39,7 +39,8 @@ fn cut(cuts: &[usize], pull: usize, room: usize) -> usize
 impl Script {
     /// Counts one more call, and says how many bytes move before it fails, if it fails.
     pub fn next_call(&mut self) -> Option<usize>
-        ensures { result ≡ fault_at self.old.fails.items (min (self.old.calls + 1) (2 ^ 64 - 1)) }
+        ensures fault { result ≡ fault_at self.old.fails.items self.new.calls }
+        ensures counted { self.new ≡ record self.old { calls = min (self.old.calls + 1) (2 ^ 64 - 1) } }
     {
         self.calls = self.calls.saturating_add(1);
         fault(&self.fails, self.calls)
@@ -47,7 +48,8 @@ impl Script {
 
     /// Counts one more pull, and says how many bytes it may move into so much room.
     pub fn next_cut(&mut self, room: usize) -> usize
-        ensures { result ≡ cut_at self.old.cuts.items self.old.pulls room }
+        ensures most { result ≡ cut_at self.old.cuts.items self.old.pulls room }
+        ensures counted { self.new ≡ record self.old { pulls = min (self.old.pulls + 1) (2 ^ 64 - 1) } }
     {
         let pull = self.pulls;
         self.pulls = pull.saturating_add(1);
