@@ -20,3 +20,19 @@ pub struct FreeGate;
 impl Gate for FreeGate {
     fn enter(&self, _place: Place) {}
 }
+
+#[cfg(test)]
+mod tests {
+    use super::*;
+
+    /// Passes all places of the gate.
+    fn pass<G: Gate>(gate: &G) {
+        gate.enter(Place::Part(0));
+        gate.enter(Place::Feeder(1));
+    }
+
+    #[test]
+    fn the_free_gate_lets_pass() {
+        pass(&FreeGate);
+    }
+}

@@ -4,6 +4,8 @@ ghost use Rattle.as_outside.specs.Shelf.{IsFront, Rose};
 mod call_log;
 mod script;
 mod tape;
+#[cfg(test)]
+mod tests;
 
 use crate::{Desk, Entry, Failed, Shelf};
 use as_base::{Bytes, NoMemory};

@@ -47,3 +47,25 @@ pub fn code(status: Status) -> u8
         Status::JournalFault => 7,
     }
 }
+
+#[cfg(test)]
+mod tests {
+    use super::*;
+
+    #[test]
+    fn each_end_has_its_code(rt: HostRuntime) {
+        let codes = [
+            (Status::Done, 0),
+            (Status::NoMemory, 1),
+            (Status::Usage, 2),
+            (Status::ReadFault, 3),
+            (Status::AnswerFault, 4),
+            (Status::OutputBroken, 5),
+            (Status::TooLong, 6),
+            (Status::JournalFault, 7),
+        ];
+        for (status, want) in codes {
+            assert_eq!(rt; code(status), want);
+        }
+    }
+}
