@@ -88,7 +88,7 @@ InRange-item_of_line line = (item_of_line-Good line).0
 pub IsTaken-item_of_line : (line : List ℕ) → IsTaken (item_of_line line)
 IsTaken-item_of_line line = (item_of_line-Good line).1
 
--- what the words of a line say, in either spelling
+-- the same of the item of a line's words
 pub InRange-item_of_words : (words : List (List ℕ)) → InRange (item_of_words words)
 InRange-item_of_words words = (item_of_words-Good words).0
 

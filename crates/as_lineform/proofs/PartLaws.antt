@@ -7,31 +7,31 @@ use Rattle.std.proofs.lemmas.List.Sums.{fails_before_first}
 use Rattle.as_lineform.specs.Parts.{onto_first, parts_of, but_last, last_of}
 
 -- at least one part
-abbrev pub IsSome_part : List (List ℕ) → Type 0
-IsSome_part [] = ⊥
-IsSome_part (part ∷ parts) = Unit {0}
+abbrev pub HasPart : List (List ℕ) → Type 0
+HasPart [] = ⊥
+HasPart (part ∷ parts) = Unit {0}
 
 -- what the last part becomes by one more byte: it is ended by a separator, or grows
 abbrev pub ended_by : ℕ → ℕ → List ℕ → List (List ℕ)
 ended_by separator b part = if b == separator then part ∷ [] ∷ [] else (part ++ b ∷ []) ∷ []
 
-IsSome_part-onto_first : (b : ℕ) (parts : List (List ℕ)) → IsSome_part (onto_first b parts)
-IsSome_part-onto_first b [] = tt
-IsSome_part-onto_first b (part ∷ parts) = tt
+HasPart-onto_first : (b : ℕ) (parts : List (List ℕ)) → HasPart (onto_first b parts)
+HasPart-onto_first b [] = tt
+HasPart-onto_first b (part ∷ parts) = tt
 
-pub IsSome_part-parts_of : (separator : ℕ) (bytes : List ℕ) → IsSome_part (parts_of separator bytes)
-IsSome_part-parts_of separator [] = tt
-IsSome_part-parts_of separator (b ∷ bytes) =
-    elim (b == separator) as (λ t. IsSome_part (if t then [] ∷ parts_of separator bytes else onto_first b (parts_of separator bytes))) [
+pub HasPart-parts_of : (separator : ℕ) (bytes : List ℕ) → HasPart (parts_of separator bytes)
+HasPart-parts_of separator [] = tt
+HasPart-parts_of separator (b ∷ bytes) =
+    elim (b == separator) as (λ t. HasPart (if t then [] ∷ parts_of separator bytes else onto_first b (parts_of separator bytes))) [
       | true ↦ tt
-      | false ↦ IsSome_part-onto_first b (parts_of separator bytes)
+      | false ↦ HasPart-onto_first b (parts_of separator bytes)
     ]
 
-pub but_last-cons : (part : List ℕ) (parts : List (List ℕ)) → IsSome_part parts → but_last (part ∷ parts) ≡ part ∷ but_last parts
+pub but_last-cons : (part : List ℕ) (parts : List (List ℕ)) → HasPart parts → but_last (part ∷ parts) ≡ part ∷ but_last parts
 but_last-cons part [] h = absurd h
 but_last-cons part (next ∷ parts) h = refl
 
-pub last_of-cons : (part : List ℕ) (parts : List (List ℕ)) → IsSome_part parts → last_of (part ∷ parts) ≡ last_of parts
+pub last_of-cons : (part : List ℕ) (parts : List (List ℕ)) → HasPart parts → last_of (part ∷ parts) ≡ last_of parts
 last_of-cons part [] h = absurd h
 last_of-cons part (next ∷ parts) h = refl
 
@@ -42,7 +42,7 @@ onto_ended c separator b part =
       | false ↦ refl
     ]
 
-onto_split : (c separator b : ℕ) (parts : List (List ℕ)) → IsSome_part parts
+onto_split : (c separator b : ℕ) (parts : List (List ℕ)) → HasPart parts
     → onto_first c (but_last parts ++ ended_by separator b (last_of parts)) ≡ but_last (onto_first c parts) ++ ended_by separator b (last_of (onto_first c parts))
 onto_split c separator b [] h = absurd h
 onto_split c separator b (part ∷ []) h = onto_ended c separator b part
@@ -53,7 +53,7 @@ pub parts_of_push : (separator : ℕ) (bytes : List ℕ) (b : ℕ)
     → parts_of separator (bytes ++ b ∷ []) ≡ but_last (parts_of separator bytes) ++ ended_by separator b (last_of (parts_of separator bytes))
 parts_of_push separator [] b = refl
 parts_of_push separator (c ∷ bytes) b =
-    let some = IsSome_part-parts_of separator bytes in
+    let some = HasPart-parts_of separator bytes in
     let before : parts_of separator (bytes ++ b ∷ []) ≡ but_last (parts_of separator bytes) ++ ended_by separator b (last_of (parts_of separator bytes)) = parts_of_push separator bytes b in
     elim (c == separator) as (λ t. (if t then [] ∷ parts_of separator (bytes ++ b ∷ []) else onto_first c (parts_of separator (bytes ++ b ∷ [])))
     ≡ but_last (if t then [] ∷ parts_of separator bytes else onto_first c (parts_of separator bytes)) ++ ended_by separator b (last_of (if t then [] ∷ parts_of separator bytes else onto_first c (parts_of separator bytes)))) [
@@ -106,7 +106,7 @@ last_of_by_byte separator bytes b =
 abbrev weight : List (List ℕ) → ℕ
 weight parts = length (but_last parts) + length (last_of parts)
 
-weight-onto_first : (b : ℕ) (parts : List (List ℕ)) → IsSome_part parts → weight (onto_first b parts) ≤ weight parts + 1
+weight-onto_first : (b : ℕ) (parts : List (List ℕ)) → HasPart parts → weight (onto_first b parts) ≤ weight parts + 1
 weight-onto_first b [] h = absurd h
 weight-onto_first b (part ∷ []) h = omega arith
 weight-onto_first b (part ∷ next ∷ parts) h = omega arith
@@ -115,7 +115,7 @@ weight-onto_first b (part ∷ next ∷ parts) h = omega arith
 pub parts_of-le : (separator : ℕ) (bytes : List ℕ) → length (but_last (parts_of separator bytes)) + length (last_of (parts_of separator bytes)) ≤ length bytes
 parts_of-le separator [] = omega arith
 parts_of-le separator (b ∷ bytes) =
-    let some = IsSome_part-parts_of separator bytes in
+    let some = HasPart-parts_of separator bytes in
     let before : weight (parts_of separator bytes) ≤ length bytes = parts_of-le separator bytes in
     elim (b == separator) as (λ t. weight (if t then [] ∷ parts_of separator bytes else onto_first b (parts_of separator bytes)) ≤ length (b ∷ bytes)) [
       | true ↦ rw (but_last-cons [] (parts_of separator bytes) some, last_of-cons [] (parts_of separator bytes) some) (omega arith)

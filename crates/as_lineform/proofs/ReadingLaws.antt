@@ -11,9 +11,9 @@ use Rattle.as_lineform.specs.Reading.{words_of, next_by, next_four}
 use Rattle.std.proofs.Common.{to_z, of_z, w64}
 use Rattle.std.proofs.lemmas.Int.{to_z-of_z}
 use Rattle.as_lineform.proofs.NumberLaws.{integer-fits}
-use Rattle.as_lineform.proofs.PartLaws.{IsSome_part-parts_of, IsSome_part}
+use Rattle.as_lineform.proofs.PartLaws.{HasPart-parts_of, HasPart}
 
-some_part : (parts : List (List ℕ)) → IsSome_part parts → parts ≡ [] → ⊥
+some_part : (parts : List (List ℕ)) → HasPart parts → parts ≡ [] → ⊥
 some_part [] h e = absurd h
 some_part (part ∷ parts) h e = cc e
 
@@ -22,7 +22,7 @@ pub words_of-none : (rest : Option (Bor (List ℕ))) (none : Bool) → is_some r
 words_of-none None true e = (λ h. refl, λ h. refl)
 words_of-none None false e = cc e
 words_of-none (Some line) true e = cc e
-words_of-none (Some line) false e = (λ h. cc h, λ h. absurd (some_part (parts_of 32 line.now) (IsSome_part-parts_of 32 line.now) h))
+words_of-none (Some line) false e = (λ h. cc h, λ h. absurd (some_part (parts_of 32 line.now) (HasPart-parts_of 32 line.now) h))
 
 bind_map : {X Y Z : Type 0} (o : Option X) (g : X → Y) (k : Y → Option Z) → (option_map g o >>= k) ≡ (o >>= (λ x. k (g x)))
 bind_map None g k = refl

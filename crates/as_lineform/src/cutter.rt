@@ -99,6 +99,8 @@ impl Lines {
     /// The item of the line, as if it ended here.
     fn item(&self) -> Result<Item, NoMemory>
         ensures item { IfOk result (λ item. item ≡ item_of_kept self.now) }
+        ensures range { IfOk result InRange }
+        ensures taken { IfOk result IsTaken }
         ensures cause { OnErr result (IsCreation (item_of_kept self.now)) }
     {
         if self.is_long {
