@@ -1,5 +1,5 @@
 -- What a desk in memory tells of its calls.
-use Rattle.std.specs.Prelude.{◌≡◌, ◌⊎◌, ◌≤◌, vec_len, vec_capacity, Bool, true, false, if◌then◌else◌, Option, None, Some, List, [], ◌∷◌, ◌++◌}
+use Rattle.std.specs.Prelude.{◌≡◌, ◌⊎◌, ◌≤◌, vec_len, vec_capacity, true, false, if◌then◌else◌, Option, None, Some, List, [], ◌∷◌, ◌++◌}
 use Rattle.as_outside.specs.declared.entry.Entry.{Entry}
 use Rattle.as_outside.specs.declared.memory.call_log.CallLog.{CallLog}
 use Rattle.as_outside.specs.declared.memory.call_log.Kept.{Kept}
