@@ -1,0 +1,49 @@
+-- Facts of each element of a list, by recursion, and lists made of lists.
+use Rattle.std.proofs.Common.{◌≡◌, Bool, true, false, cond, List, [], ◌∷◌, ◌++◌, map, refl, ap, ◌∙◌}
+use Rattle.std.specs.List.{filter, flat_map, AllByRecursion}
+
+-- a fact of each element under a weaker one
+pub All-by : {X : Type 0} (P Q : X → Type 0) → ((x : X) → P x → Q x) → (xs : List X) → AllByRecursion P xs → AllByRecursion Q xs
+All-by P Q f [] h = tt
+All-by P Q f (x ∷ xs) h = (f x h.0, All-by P Q f xs h.1)
+
+pub All-push : {X : Type 0} (P : X → Type 0) (xs : List X) (x : X) → AllByRecursion P xs → P x → AllByRecursion P (xs ++ x ∷ [])
+All-push P [] x h p = (p, tt)
+All-push P (y ∷ xs) x h p = (h.0, All-push P xs x h.1 p)
+
+pub All-filter : {X : Type 0} (P : X → Type 0) (p : X → Bool) (xs : List X) → AllByRecursion P xs → AllByRecursion P (filter p xs)
+All-filter P p [] h = tt
+All-filter P p (x ∷ xs) h = go (p x) (All-filter P p xs h.1)
+  where
+    go : (b : Bool) → AllByRecursion P (filter p xs) → AllByRecursion P (cond b (x ∷ filter p xs) (filter p xs))
+    go true rest = (h.0, rest)
+    go false rest = rest
+
+pub All-append : {X : Type 0} (P : X → Type 0) (xs ys : List X) → AllByRecursion P xs → AllByRecursion P ys → AllByRecursion P (xs ++ ys)
+All-append P [] ys h k = k
+All-append P (x ∷ xs) ys h k = (h.0, All-append P xs ys h.1 k)
+
+-- a fact that holds of everything
+pub All-every : {X : Type 0} (P : X → Type 0) → ((x : X) → P x) → (xs : List X) → AllByRecursion P xs
+All-every P f [] = tt
+All-every P f (x ∷ xs) = (f x, All-every P f xs)
+
+pub All-rest : {X : Type 0} (P : X → Type 0) (xs ys : List X) → AllByRecursion P (xs ++ ys) → AllByRecursion P ys
+All-rest P [] ys h = h
+All-rest P (x ∷ xs) ys h = All-rest P xs ys h.1
+
+pub flat_map-map : {X Y Z : Type 0} (f : Y → List Z) (k : X → Y) (xs : List X) → flat_map f (map k xs) ≡ flat_map (λ x. f (k x)) xs
+flat_map-map f k [] = refl
+flat_map-map f k (x ∷ xs) = ap (λ l. f (k x) ++ l) (flat_map-map f k xs)
+
+pub flat_map-same : {X Y : Type 0} (f g : X → List Y) (xs : List X) → AllByRecursion (λ x. f x ≡ g x) xs → flat_map f xs ≡ flat_map g xs
+flat_map-same f g [] h = refl
+flat_map-same f g (x ∷ xs) h = ap (λ l. l ++ flat_map f xs) h.0 ∙ ap (λ l. g x ++ l) (flat_map-same f g xs h.1)
+
+pub map-map : {X Y Z : Type 0} (f : Y → Z) (k : X → Y) (xs : List X) → map f (map k xs) ≡ map (λ x. f (k x)) xs
+map-map f k [] = refl
+map-map f k (x ∷ xs) = ap (λ l. f (k x) ∷ l) (map-map f k xs)
+
+pub cond_same : {X : Type 0} (b : Bool) (x : X) → cond b x x ≡ x
+cond_same true x = refl
+cond_same false x = refl

@@ -1,0 +1,86 @@
+-- Calls one after another, up to the one that stopped the run.
+use Rattle.std.proofs.Common.{◌≡◌, Result, Ok, Err, Option, List, [], ◌∷◌, ◌++◌, sym, ap, ◌∙◌, append_assoc, inl, inr, ⊎_elim, IsErrAnd}
+use Rattle.std.proofs.lemmas.Result.{err_from_is_err_and}
+use Rattle.as_outside.specs.declared.entry.Entry.{Entry}
+use Rattle.as_outside.specs.declared.entry.Entry.TheVariants.{SayFailed, BeginFailed, PutFailed}
+use Rattle.as_outside.specs.Shelf.{Since}
+use Rattle.as_outside.proofs.Calls.{tells_after}
+use Rattle.astream_top.specs.declared.stop.Stop.{Stop}
+use Rattle.astream_top.specs.declared.stop.Stop.TheVariants as stop
+use Rattle.astream_top.specs.Stop.{EndsWith, IsStoppedBy, IsQuiet, Goes}
+
+pub IsQuiet-append : (a b : List Entry) → IsQuiet a → IsQuiet b → IsQuiet (a ++ b)
+IsQuiet-append [] b ha hb = hb
+IsQuiet-append (e ∷ a) b ha hb = (ha.0, IsQuiet-append a b ha.1 hb)
+
+EndsWith-after : (a b : List Entry) (e : Entry) → EndsWith b e → EndsWith (a ++ b) e
+EndsWith-after a b e h = (a ++ h.0, ap (λ l. a ++ l) h.1 ∙ sym (append_assoc a h.0 (e ∷ [])))
+
+-- the call that stopped the run is the last of all calls
+pub IsStoppedBy-after : (s : Stop) (a b : List Entry) → IsStoppedBy s b → IsStoppedBy s (a ++ b)
+IsStoppedBy-after stop.NoMemory a b h = tt
+IsStoppedBy-after stop.TooLong a b h = h
+IsStoppedBy-after stop.ReadFault a b h = h
+IsStoppedBy-after stop.AnswerFault a b h = (h.0, EndsWith-after a b (SayFailed h.0) h.1)
+IsStoppedBy-after (stop.OutputBroken n) a b h =
+    ⊎_elim (λ begun. inl (EndsWith-after a b (BeginFailed n) begun)) (λ put. inr (put.0, EndsWith-after a b (PutFailed n put.0) put.1)) h
+
+-- calls that went well, and then some that go on or stop the run
+pub goes_after : {X : Type 0} (a b c : Option (List Entry)) (r : Result X Stop) (P Q R : List Entry → Type 0) → Since a b (λ calls. IsQuiet calls × P calls) → Since b c (Goes r Q) → ((xs ys : List Entry) → P xs → Q ys → R (xs ++ ys)) → Since a c (Goes r R)
+goes_after a b c (Ok x) P Q R first second join = (
+  first.0 ++ second.0,
+  tells_after a b c first.0 second.0 first.1 second.1,
+  (IsQuiet-append first.0 second.0 first.2.0 second.2.0, join first.0 second.0 first.2.1 second.2.1),
+)
+goes_after a b c (Err s) P Q R first second join = (
+  first.0 ++ second.0,
+  tells_after a b c first.0 second.0 first.1 second.1,
+  (IsQuiet-append first.0 second.0 first.2.0 second.2.0, IsStoppedBy-after s first.0 second.0 second.2.1),
+)
+
+-- the exit of a `?` hands on the stop of the call before it
+pub goes_exit : {X : Type 0} (a b c : Option (List Entry)) (r : Result X Stop) (s : Stop) (P R : List Entry → Type 0) → IsErrAnd r (λ y. y ≡ s) → Since a b (λ calls. IsQuiet calls × P calls) → Since b c (λ calls. IsQuiet calls × IsStoppedBy s calls) → Since a c (Goes r R)
+goes_exit a b c r s P R out first second =
+    let p = err_from_is_err_and r out in
+    let is : r ≡ Err s = p.1 ∙ ap Err p.2 in
+    rw is (
+      first.0 ++ second.0,
+      tells_after a b c first.0 second.0 first.1 second.1,
+      (IsQuiet-append first.0 second.0 first.2.0 second.2.0, IsStoppedBy-after s first.0 second.0 second.2.1),
+    )
+
+-- calls that went well, and then more that did
+pub goes_well : (a b c : Option (List Entry)) (P Q R : List Entry → Type 0) → Since a b (λ calls. IsQuiet calls × P calls) → Since b c (λ calls. IsQuiet calls × Q calls) → ((xs ys : List Entry) → P xs → Q ys → R (xs ++ ys)) → Since a c (λ calls. IsQuiet calls × R calls)
+goes_well a b c P Q R first second join = (
+  first.0 ++ second.0,
+  tells_after a b c first.0 second.0 first.1 second.1,
+  (IsQuiet-append first.0 second.0 first.2.0 second.2.0, join first.0 second.0 first.2.1 second.2.1),
+)
+
+pub joined : (xs ys us vs : List Entry) → xs ≡ us → ys ≡ vs → xs ++ ys ≡ us ++ vs
+joined xs ys us vs hx hy = ap (λ l. l ++ ys) hx ∙ ap (λ l. us ++ l) hy
+
+pub goes_weaker : {X : Type 0} (a b : Option (List Entry)) (r : Result X Stop) (P Q : List Entry → Type 0) → ((calls : List Entry) → P calls → Q calls) → Since a b (Goes r P) → Since a b (Goes r Q)
+goes_weaker a b (Ok x) P Q weaker h = (h.0, h.1, (h.2.0, weaker h.0 h.2.1))
+goes_weaker a b (Err s) P Q weaker h = h
+
+-- calls that went well, and then some whose meaning goes by them
+pub goes_then : {X : Type 0} (a b c : Option (List Entry)) (r : Result X Stop) (P R : List Entry → Type 0) (first : Since a b (λ calls. IsQuiet calls × P calls)) → Since b c (Goes r (λ ys. R (first.0 ++ ys))) → Since a c (Goes r R)
+goes_then a b c (Ok x) P R first second =
+    (first.0 ++ second.0, tells_after a b c first.0 second.0 first.1 second.1, (IsQuiet-append first.0 second.0 first.2.0 second.2.0, second.2.1))
+goes_then a b c (Err s) P R first second = (
+  first.0 ++ second.0,
+  tells_after a b c first.0 second.0 first.1 second.1,
+  (IsQuiet-append first.0 second.0 first.2.0 second.2.0, IsStoppedBy-after s first.0 second.0 second.2.1),
+)
+
+pub goes_well_then : (a b c : Option (List Entry)) (P R : List Entry → Type 0) (first : Since a b (λ calls. IsQuiet calls × P calls)) → Since b c (λ ys. IsQuiet ys × R (first.0 ++ ys)) → Since a c (λ calls. IsQuiet calls × R calls)
+goes_well_then a b c P R first second =
+    (first.0 ++ second.0, tells_after a b c first.0 second.0 first.1 second.1, (IsQuiet-append first.0 second.0 first.2.0 second.2.0, second.2.1))
+
+-- the exit of a first `?`
+pub goes_out : {X : Type 0} (a b : Option (List Entry)) (r : Result X Stop) (s : Stop) (R : List Entry → Type 0) → IsErrAnd r (λ y. y ≡ s) → Since a b (λ calls. IsQuiet calls × IsStoppedBy s calls) → Since a b (Goes r R)
+goes_out a b r s R out h =
+    let p = err_from_is_err_and r out in
+    let is : r ≡ Err s = p.1 ∙ ap Err p.2 in
+    rw is h

@@ -1,0 +1,86 @@
+-- The rows of records below a mark, and what is kept where a record comes or a mark passes.
+use Rattle.std.proofs.Common.{◌≡◌, ℕ, ◌≤◌, ◌<◌, nat_lt, cond, List, [], ◌∷◌, ◌++◌, refl, sym, ap, ap₂, ◌∙◌, append_assoc, append-nil, arith}
+use Rattle.std.specs.List.{AllByRecursion}
+use Rattle.std.proofs.lemmas.Bool.{lt-ltb, le-ltb, lt-leb}
+use Rattle.std.proofs.lemmas.Grind.{flat_map-append}
+use Rattle.std.proofs.lemmas.List.Elements.{filter-append}
+use Rattle.as_base.specs.declared.item.Given.{Given}
+use Rattle.astream_top.specs.declared.session.Live.{Live}
+use Rattle.astream_top.specs.View.{row_text}
+use Rattle.astream_top.specs.Kept.{rows_from, below, NeverFalls, StartsFrom}
+use Rattle.astream_top.specs.Session.{Sees}
+use Rattle.astream_top.proofs.Each.{All-by, All-push, All-filter}
+
+rows-append : (from : ℕ) (xs ys : List Given) → rows_from from (xs ++ ys) ≡ rows_from from xs ++ rows_from from ys
+rows-append from xs ys = flat_map-append _ xs ys
+
+rows_below-append : (from w : ℕ) (xs ys : List Given) → rows_from from (below w (xs ++ ys)) ≡ rows_from from (below w xs) ++ rows_from from (below w ys)
+rows_below-append from w xs ys = ap (rows_from from) (filter-append (λ (g : Given). nat_lt g.time w) xs ys) ∙ rows-append from (below w xs) (below w ys)
+
+below-all : (w : ℕ) (gs : List Given) → AllByRecursion (λ (g : Given). g.time < w) gs → below w gs ≡ gs
+below-all w [] h = refl
+below-all w (g ∷ gs) h = ap (λ b. cond b (g ∷ below w gs) (below w gs)) (lt-ltb g.time w h.0) ∙ ap (λ l. g ∷ l) (below-all w gs h.1)
+
+below-none : (w : ℕ) (gs : List Given) → AllByRecursion (λ (g : Given). w ≤ g.time) gs → below w gs ≡ []
+below-none w [] h = refl
+below-none w (g ∷ gs) h = ap (λ b. cond b (g ∷ below w gs) (below w gs)) (le-ltb g.time w h.0) ∙ below-none w gs h.1
+
+-- a record at the mark or after it adds no row below the mark
+pub rows_below-push : (from w : ℕ) (gs : List Given) (g : Given) → w ≤ g.time → rows_from from (below w (gs ++ g ∷ [])) ≡ rows_from from (below w gs)
+rows_below-push from w gs g low = rows_below-append from w gs (g ∷ []) ∙ ap (λ l. rows_from from (below w gs) ++ rows_from from l) (below-none w (g ∷ []) (low, tt)) ∙ append-nil (rows_from from (below w gs))
+
+-- records before the query have no row
+rows-late : (from : ℕ) (gs : List Given) → AllByRecursion (λ (g : Given). g.time < from) gs → rows_from from gs ≡ []
+rows-late from [] h = refl
+rows-late from (g ∷ gs) h = ap (λ b. cond b (row_text g) [] ++ rows_from from gs) (lt-leb from g.time h.0) ∙ rows-late from gs h.1
+
+pub Sees-push : (all kept : List Given) (g : Given) (mark : ℕ) (q : Live) → mark ≤ g.time → Sees all mark kept q → Sees (all ++ g ∷ []) mark (kept ++ g ∷ []) q
+Sees-push all kept g mark q low s w up =
+    rows_below-append q.from w all (g ∷ [])
+    ∙ ap (λ l. l ++ rows_from q.from (below w (g ∷ []))) (s w up)
+    ∙ append_assoc (rows_from q.from (below mark all)) (rows_from q.from (below w kept)) (rows_from q.from (below w (g ∷ [])))
+    ∙ ap (λ l. rows_from q.from (below mark all) ++ l) (sym (rows_below-append q.from w kept (g ∷ [])))
+    ∙ ap (λ l. l ++ rows_from q.from (below w (kept ++ g ∷ []))) (sym (rows_below-push q.from mark all g low))
+
+-- what a mark adds are the rows of the records that it passes
+rows-cut : (all kept passed rest : List Given) (mark w : ℕ) (q : Live) → mark ≤ w → Sees all mark kept q → kept ≡ passed ++ rest → AllByRecursion (λ (g : Given). g.time < w) passed
+    → rows_from q.from (below w all) ≡ (rows_from q.from (below mark all) ++ rows_from q.from passed) ++ rows_from q.from (below w rest)
+rows-cut all kept passed rest mark w q up s whole before =
+    s w up
+    ∙ ap (λ l. rows_from q.from (below mark all) ++ rows_from q.from (below w l)) whole
+    ∙ ap (λ l. rows_from q.from (below mark all) ++ l) (rows_below-append q.from w passed rest)
+    ∙ ap (λ l. rows_from q.from (below mark all) ++ (rows_from q.from l ++ rows_from q.from (below w rest))) (below-all w passed before)
+    ∙ sym (append_assoc (rows_from q.from (below mark all)) (rows_from q.from passed) (rows_from q.from (below w rest)))
+
+pub rows-passed : (all kept passed rest : List Given) (mark t : ℕ) (q : Live) → mark ≤ t → Sees all mark kept q → kept ≡ passed ++ rest → AllByRecursion (λ (g : Given). g.time < t) passed → AllByRecursion (λ (g : Given). t ≤ g.time) rest
+    → rows_from q.from (below t all) ≡ rows_from q.from (below mark all) ++ rows_from q.from passed
+rows-passed all kept passed rest mark t q up s whole before after =
+    rows-cut all kept passed rest mark t q up s whole before
+    ∙ ap (λ l. (rows_from q.from (below mark all) ++ rows_from q.from passed) ++ rows_from q.from l) (below-none t rest after)
+    ∙ append-nil (rows_from q.from (below mark all) ++ rows_from q.from passed)
+
+pub Sees-cut : (all kept passed rest : List Given) (mark t : ℕ) (q : Live) → mark ≤ t → Sees all mark kept q → kept ≡ passed ++ rest → AllByRecursion (λ (g : Given). g.time < t) passed → AllByRecursion (λ (g : Given). t ≤ g.time) rest
+    → Sees all t rest q
+Sees-cut all kept passed rest mark t q up s whole before after w low =
+    rows-cut all kept passed rest mark w q (omega (arith, up, low)) s whole (All-by (λ (g : Given). g.time < t) (λ (g : Given). g.time < w) (λ g h. omega (arith, h, low)) passed before)
+    ∙ ap (λ l. l ++ rows_from q.from (below w rest)) (sym (rows-passed all kept passed rest mark t q up s whole before after))
+
+pub NeverFalls-push : (gs : List Given) (g : Given) → NeverFalls gs → AllByRecursion (λ (e : Given). e.time ≤ g.time) gs → NeverFalls (gs ++ g ∷ [])
+NeverFalls-push [] g h low = (tt, tt)
+NeverFalls-push (e ∷ gs) g h low = (All-push (λ (later : Given). e.time ≤ later.time) gs g h.0 low.0, NeverFalls-push gs g h.1 low.1)
+
+pub NeverFalls-rest : (xs ys : List Given) → NeverFalls (xs ++ ys) → NeverFalls ys
+NeverFalls-rest [] ys h = h
+NeverFalls-rest (x ∷ xs) ys h = NeverFalls-rest xs ys h.1
+
+pub after-mark : (t : ℕ) (rest : List Given) → StartsFrom t rest → NeverFalls rest → AllByRecursion (λ (g : Given). t ≤ g.time) rest
+after-mark t [] start up = tt
+after-mark t (g ∷ rest) start up = (start, All-by (λ (later : Given). g.time ≤ later.time) (λ (e : Given). t ≤ e.time) (λ e h. omega (arith, start, h)) rest up.0)
+
+pub late-all : (w changelog : ℕ) (gs : List Given) → AllByRecursion (λ (g : Given). g.time < changelog) gs → rows_from changelog (below w gs) ≡ []
+late-all w changelog gs h = rows-late changelog (below w gs) (All-filter (λ (g : Given). g.time < changelog) (λ (g : Given). nat_lt g.time w) gs h)
+
+-- a query has no rows of what was accepted before it
+pub Sees-new : (all kept : List Given) (mark changelog n : ℕ) → AllByRecursion (λ (g : Given). g.time < changelog) all → AllByRecursion (λ (g : Given). g.time < changelog) kept → Sees all mark kept (record { n = n; from = changelog })
+Sees-new all kept mark changelog n a k w up =
+    late-all w changelog all a ∙ sym (ap₂ (λ x y. x ++ y) (late-all mark changelog all a) (late-all w changelog kept k))

@@ -1,0 +1,356 @@
+-- What each item does to what a session stands for, and what it adds.
+use Rattle.std.proofs.Common.{◌≡◌, ℕ, ◌+◌, ◌≤◌, ◌<◌, ◌||◌, ◌&&◌, max, nat_lt, eqb, true, false, not, cond, codes, Option, Some, None, is_none, List, [], ◌∷◌, ◌++◌, map, length, refl, sym, ap, ap₂, subst, ◌∙◌, append-nil, arith}
+use Rattle.std.specs.List.{AllByRecursion}
+use Rattle.std.proofs.lemmas.Bool.{lt-ltb, le-ltb}
+use Rattle.std.proofs.lemmas.Bool.Decides.{nat_tests}
+use Rattle.std.proofs.lemmas.Grind.{flat_map-append}
+use Rattle.std.proofs.lemmas.List.{length_push, length-map, map-append}
+use Rattle.as_base.specs.declared.item.TheConstants.{FOREVER}
+use Rattle.as_base.specs.declared.item.StreamId.TheVariants.{A}
+use Rattle.as_base.specs.declared.item.Given.{Given}
+use Rattle.as_base.specs.declared.item.Record.{Record}
+use Rattle.as_base.specs.declared.item.Item.{Item}
+use Rattle.as_base.specs.declared.item.Item.TheVariants.{Rec, Mark, End, Create, Bad}
+use Rattle.as_base.specs.declared.item.Cause.TheVariants as cause
+use Rattle.as_base.specs.declared.answer.Word.{Word}
+use Rattle.as_base.specs.declared.answer.Word.TheVariants.{Created, Late, Back, Full, Later}
+use Rattle.as_base.specs.declared.answer.Answer.{Answer}
+use Rattle.as_base.specs.declared.answer.Piece.{Piece}
+use Rattle.as_base.specs.Range.{place_of}
+use Rattle.as_outside.specs.Outputs.{times}
+use Rattle.astream_top.specs.declared.session.Live.{Live}
+use Rattle.astream_top.specs.Setup.{run_setup}
+use Rattle.astream_top.specs.Acceptance.{is_on, has_ended, top_mark, changelog_time}
+use Rattle.astream_top.specs.Book.{Query, book, numbers, refusal, book_after, has_slot, opened}
+use Rattle.astream_top.specs.Plan.{plan_of}
+use Rattle.astream_top.specs.Prompt.{shut}
+use Rattle.astream_top.specs.Answers.{answer_to, answered, or_else, acceptance_word}
+use Rattle.astream_top.specs.View.{records, record_of, text, text_of, comes_before}
+use Rattle.astream_top.specs.Outcome.{bytes_for, created_by, Adds, IsFed}
+use Rattle.astream_top.specs.Kept.{rows_from, below, NeverFalls, pieces_of, kept_with, IsCut}
+use Rattle.astream_top.specs.Session.{query_of, InOrder, accepted, IsReached, IsPast, Sees, Clock, Stands}
+use Rattle.astream_top.proofs.Clock.{Clock-push, Clock-other, ended-by, refusal-Rec, refusal-Mark}
+use Rattle.astream_top.proofs.Each.{All-by, All-push, All-every, All-rest, flat_map-same, map-map, cond_same}
+use Rattle.astream_top.proofs.Marks.{rows_below-push, Sees-push, rows-passed, Sees-cut, NeverFalls-push, NeverFalls-rest, after-mark, late-all, Sees-new}
+use Rattle.astream_top.proofs.Texts.{IsTimely, InOrder-push, text_of-is}
+use Rattle.astream_top.proofs.Books.{book-push, records-push, has_slot-is}
+use Rattle.astream_top.proofs.Numbers.{IsNumbered, of_number, of_number-both, bytes_for-pieces, pieces-known, times-above, times-one}
+
+-- ---- the text of the outputs
+
+pub text_of-stands : {h : List Item} {count top mark changelog : ℕ} {queries : List Live} {kept : List Given} → Stands h count top mark changelog queries kept → (n : ℕ) → text_of run_setup h n ≡ of_number n (λ (q : Live). rows_from q.from (below mark (accepted h))) queries
+text_of-stands {h} {count} {top} {mark} {changelog} {queries} s n =
+    text_of-is h mark queries n s.book_is s.ordered
+    (All-by (IsPast count top changelog) IsTimely (λ r p. (p.stream, let a = p.past in let b = s.clock.ends in omega (arith, a, b))) (records run_setup h) s.past)
+    (ap (λ b. cond b FOREVER (top_mark run_setup h A)) s.clock.going ∙ s.clock.mark_is)
+
+-- ---- a step
+
+-- the answer to the item after the first `count`
+abbrev pub answer_at : ℕ → Word → Option Answer
+answer_at count w = Some (record { line = count + 1; word = w })
+
+refused-answer : (h : List Item) (x : Item) (w : Word) (count : ℕ) → count ≡ length h → refusal run_setup h x ≡ Some w → answer_at count w ≡ answer_to run_setup h x
+refused-answer h x w count e r = ap (λ n. answer_at n w) e ∙ sym (ap (λ o. answered h (or_else o (acceptance_word run_setup h x))) r)
+
+Adds-none : (h h' : List Item) → book run_setup h' ≡ book run_setup h → ((n : ℕ) → text_of run_setup h' n ≡ text_of run_setup h n) → Adds run_setup h h' [] []
+Adds-none h h' same texts = record {
+  book = ap (map (λ (q : Query). q.n)) same ∙ sym (append-nil (numbers run_setup h));
+  fresh = λ n some. absurd (omega (arith, some));
+  text = λ n. texts n ∙ sym (append-nil (text_of run_setup h n));
+  known = tt;
+}
+
+-- the numbers of the queries of a session
+numbers-are : (h : List Item) (queries : List Live) → book run_setup h ≡ map query_of queries → numbers run_setup h ≡ map (λ (q : Live). q.n) queries
+numbers-are h queries e = ap (map (λ (q : Query). q.n)) e ∙ map-map (λ (q : Query). q.n) query_of queries
+
+Adds-pieces : (h h' : List Item) (queries : List Live) (passed : List Given) → book run_setup h' ≡ book run_setup h → book run_setup h ≡ map query_of queries
+    → ((n : ℕ) → text_of run_setup h' n ≡ text_of run_setup h n ++ bytes_for n (pieces_of queries passed)) → Adds run_setup h h' [] (pieces_of queries passed)
+Adds-pieces h h' queries passed same living texts = record {
+  book = ap (map (λ (q : Query). q.n)) same ∙ sym (append-nil (numbers run_setup h));
+  fresh = λ n some. absurd (omega (arith, some));
+  text = texts;
+  known = subst (λ l. AllByRecursion (λ (p : Piece). 0 < times p.n l) (pieces_of queries passed)) (sym (numbers-are h' queries (same ∙ living))) (pieces-known (λ q. rows_from q.from passed) queries);
+}
+
+Clock-at : {h : List Item} {t t' m m' k k' : ℕ} → Clock h t m k → t ≡ t' → m ≡ m' → k ≡ k' → Clock h t' m' k'
+Clock-at {h} {t} {t'} {m} {m'} {k} {k'} c p q r = subst (λ t. Clock h t m' k') p (subst (λ m. Clock h t m k') q (subst (λ k. Clock h t m k) r c))
+
+IsPast-later : {count count' top top' changelog changelog' : ℕ} (r : Record) → count ≤ count' → top ≤ top' → changelog ≤ changelog' → IsPast count top changelog r → IsPast count' top' changelog' r
+IsPast-later r a b c p = record {
+  stream = p.stream;
+  line = let h = p.line in omega (arith, h, a);
+  reached = let h = p.reached in omega (arith, h, b);
+  past = let h = p.past in omega (arith, h, c);
+}
+
+accepted-same : (h h' : List Item) → records run_setup h' ≡ records run_setup h → accepted h' ≡ accepted h
+accepted-same h h' e = ap (map (λ (r : Record). r.given)) e
+
+-- an item after which the clock, the book and the records are the same
+Stands-same : (h : List Item) (x : Item) (count top mark changelog : ℕ) (queries : List Live) (kept : List Given) → Stands h count top mark changelog queries kept
+    → Clock (h ++ x ∷ []) top mark changelog → book run_setup (h ++ x ∷ []) ≡ book run_setup h → records run_setup (h ++ x ∷ []) ≡ records run_setup h
+    → Stands (h ++ x ∷ []) (count + 1) top mark changelog queries kept
+Stands-same h x count top mark changelog queries kept s clock b r = record {
+  lines = ap (λ n. n + 1) s.lines ∙ sym (length_push h x);
+  clock = clock;
+  book_is = b ∙ s.book_is;
+  past = subst (λ l. AllByRecursion (IsPast (count + 1) top changelog) l) (sym r)
+      (All-by (IsPast count top changelog) (IsPast (count + 1) top changelog) (λ t p. IsPast-later t (omega arith) (omega arith) (omega arith) p) (records run_setup h) s.past);
+  ordered = subst InOrder (sym r) s.ordered;
+  reached = s.reached;
+  rising = s.rising;
+  sees = subst (λ l. AllByRecursion (Sees l mark kept) queries) (sym (accepted-same h (h ++ x ∷ []) r)) s.sees;
+}
+
+refused-step : (h : List Item) (x : Item) (w : Word) (count top mark changelog : ℕ) (queries : List Live) (kept : List Given) → Stands h count top mark changelog queries kept
+    → Clock (h ++ x ∷ []) top mark changelog → book run_setup (h ++ x ∷ []) ≡ book run_setup h → records run_setup (h ++ x ∷ []) ≡ records run_setup h
+    → refusal run_setup h x ≡ Some w → created_by w ≡ []
+    → Stands (h ++ x ∷ []) (count + 1) top mark changelog queries kept × IsFed run_setup h x (record { answer = answer_at count w; pieces = [] })
+refused-step h x w count top mark changelog queries kept s clock b r refuse word =
+    let next = Stands-same h x count top mark changelog queries kept s clock b r in (
+      next,
+      record {
+        answer = refused-answer h x w count s.lines refuse;
+        adds = subst (λ l. Adds run_setup h (h ++ x ∷ []) l []) (sym word)
+            (Adds-none h (h ++ x ∷ []) b (λ n. text_of-stands next n ∙ ap (λ all. of_number n (λ (q : Live). rows_from q.from (below mark all)) queries) (accepted-same h (h ++ x ∷ []) r) ∙ sym (text_of-stands s n)));
+      },
+    )
+
+book-same : (h : List Item) (x : Item) → book_after run_setup h (book run_setup h) x ≡ book run_setup h → book run_setup (h ++ x ∷ []) ≡ book run_setup h
+book-same h x e = book-push run_setup h x ∙ e
+
+records-same : (h : List Item) (x : Item) → record_of run_setup h x ≡ [] → records run_setup (h ++ x ∷ []) ≡ records run_setup h
+records-same h x e = records-push run_setup h x ∙ ap (λ l. records run_setup h ++ l) e ∙ append-nil (records run_setup h)
+
+is_on-Rec : (g : Given) → g.stream ≡ A → is_on A (Rec g) ≡ true
+is_on-Rec g a = ap (λ s. eqb (place_of s) 0) a
+
+-- a record below the front
+pub late-step : (h : List Item) (g : Given) (count top mark changelog : ℕ) (queries : List Live) (kept : List Given) → Stands h count top mark changelog queries kept → g.stream ≡ A → g.time < FOREVER → g.time < top
+    → Stands (h ++ Rec g ∷ []) (count + 1) top mark changelog queries kept × IsFed run_setup h (Rec g) (record { answer = answer_at count Late; pieces = [] })
+late-step h g count top mark changelog queries kept s a within low =
+    let ahead = s.clock.ahead in
+    let clock = Clock-push h (Rec g) top mark changelog s.clock (is_on-Rec g a) refl (omega arith) (omega arith) (omega (arith, within)) in
+    let refuse = refusal-Rec h g s.clock a ∙ ap (λ b. cond b (Some Late) None) (lt-ltb g.time top low) in
+    refused-step h (Rec g) Late count top mark changelog queries kept s
+    (Clock-at clock (omega (arith, low)) (omega arith) (omega (arith, ahead, low)))
+    (book-same h (Rec g) refl)
+    (records-same h (Rec g) (ap (λ o. cond (is_none o) (record { seq = length h + 1; given = g } ∷ []) []) refuse))
+    refuse refl
+
+-- a mark below the last
+pub back-step : (h : List Item) (t count top mark changelog : ℕ) (queries : List Live) (kept : List Given) → Stands h count top mark changelog queries kept → t < FOREVER → t < mark
+    → Stands (h ++ Mark A t ∷ []) (count + 1) top mark changelog queries kept × IsFed run_setup h (Mark A t) (record { answer = answer_at count Back; pieces = [] })
+back-step h t count top mark changelog queries kept s within low =
+    let ahead = s.clock.ahead in
+    let behind = s.clock.behind in
+    let clock = Clock-push h (Mark A t) top mark changelog s.clock refl refl (omega arith) (omega arith) (omega (arith, within)) in
+    let refuse = refusal-Mark h t s.clock ∙ ap (λ b. cond b (Some Back) None) (lt-ltb t mark low) in
+    refused-step h (Mark A t) Back count top mark changelog queries kept s
+    (Clock-at clock (omega (arith, low, behind)) (omega (arith, low)) (omega (arith, ahead, behind, low)))
+    (book-same h (Mark A t) refl) (records-same h (Mark A t) refl) refuse refl
+
+-- a line that this stage does not read
+pub bad-step : (h : List Item) (count top mark changelog : ℕ) (queries : List Live) (kept : List Given) → Stands h count top mark changelog queries kept
+    → Stands (h ++ Bad cause.Later ∷ []) (count + 1) top mark changelog queries kept × IsFed run_setup h (Bad cause.Later) (record { answer = answer_at count Later; pieces = [] })
+bad-step h count top mark changelog queries kept s =
+    refused-step h (Bad cause.Later) Later count top mark changelog queries kept s
+    (Clock-other h (Bad cause.Later) s.clock refl) (book-same h (Bad cause.Later) refl) (records-same h (Bad cause.Later) refl) refl refl
+
+comes : (a b m n : ℕ) → a ≤ b → m < n → (nat_lt a b || (eqb a b && nat_lt m n)) ≡ true
+comes a b m n h k = grind (arith, nat_tests)
+
+-- a record that is accepted, and what is kept then
+record-step : (h : List Item) (g : Given) (count top mark changelog : ℕ) (queries : List Live) (kept : List Given) → Stands h count top mark changelog queries kept → g.stream ≡ A → g.time < FOREVER → top ≤ g.time
+    → (kept' : List Given) → AllByRecursion (IsReached g.time (max changelog (g.time + 1))) kept' → NeverFalls kept' → AllByRecursion (Sees (accepted h ++ g ∷ []) mark kept') queries
+    → Stands (h ++ Rec g ∷ []) (count + 1) g.time mark (max changelog (g.time + 1)) queries kept' × IsFed run_setup h (Rec g) (record { answer = None; pieces = [] })
+record-step h g count top mark changelog queries kept s a within up kept' reached rising sees =
+    let behind = s.clock.behind in
+    let lines = s.lines in
+    let clock = Clock-push h (Rec g) top mark changelog s.clock (is_on-Rec g a) refl (omega arith) (omega arith) (omega (arith, within)) in
+    let refuse = refusal-Rec h g s.clock a ∙ ap (λ b. cond b (Some Late) None) (le-ltb g.time top up) in
+    let new : records run_setup (h ++ Rec g ∷ []) ≡ records run_setup h ++ r ∷ [] = records-push run_setup h (Rec g) ∙ ap (λ o. records run_setup h ++ cond (is_none o) (r ∷ []) []) refuse in
+    let all = ap (map (λ (t : Record). t.given)) new ∙ map-append (λ (t : Record). t.given) (records run_setup h) (r ∷ []) in
+    let next : Stands (h ++ Rec g ∷ []) (count + 1) g.time mark (max changelog (g.time + 1)) queries kept' = record {
+      lines = ap (λ n. n + 1) s.lines ∙ sym (length_push h (Rec g));
+      clock = Clock-at clock (omega (arith, up)) (omega arith) refl;
+      book_is = book-same h (Rec g) refl ∙ s.book_is;
+      past = subst (λ l. AllByRecursion (IsPast (count + 1) g.time (max changelog (g.time + 1))) l) (sym new)
+          (All-push (IsPast (count + 1) g.time (max changelog (g.time + 1))) (records run_setup h) r
+          (All-by (IsPast count top changelog) (IsPast (count + 1) g.time (max changelog (g.time + 1))) (λ t p. IsPast-later t (omega arith) up (omega arith) p) (records run_setup h) s.past)
+          (record { stream = a; line = omega (arith, lines); reached = omega arith; past = omega arith }));
+      ordered = subst InOrder (sym new) (InOrder-push (records run_setup h) r s.ordered
+          (All-by (IsPast count top changelog) (λ t. comes_before t r ≡ true) (λ t p. let b = p.reached in let l = p.line in comes t.given.time g.time t.seq (length h + 1) (omega (arith, b, up)) (omega (arith, l, lines))) (records run_setup h) s.past));
+      reached = reached;
+      rising = rising;
+      sees = subst (λ l. AllByRecursion (Sees l mark kept') queries) (sym all) sees;
+    } in (
+      next,
+      record {
+        answer = sym (ap (λ o. answered h (or_else o None)) refuse);
+        adds = Adds-none h (h ++ Rec g ∷ []) (book-same h (Rec g) refl) (λ n. text_of-stands next n
+            ∙ ap (λ l. of_number n (λ (q : Live). rows_from q.from (below mark l)) queries) all
+            ∙ flat_map-same (λ (q : Live). cond (eqb q.n n) (rows_from q.from (below mark (accepted h ++ g ∷ []))) []) (λ (q : Live). cond (eqb q.n n) (rows_from q.from (below mark (accepted h))) []) queries
+            (All-every (λ (q : Live). cond (eqb q.n n) (rows_from q.from (below mark (accepted h ++ g ∷ []))) [] ≡ cond (eqb q.n n) (rows_from q.from (below mark (accepted h))) []) (λ q. ap (λ l. cond (eqb q.n n) l []) (rows_below-push q.from mark (accepted h) g (omega (arith, behind, up)))) queries)
+            ∙ sym (text_of-stands s n));
+      },
+    )
+  where
+    r : Record
+    r = record { seq = length h + 1; given = g }
+
+-- a record of stream a that is not late
+pub kept-step : (h : List Item) (g : Given) (count top mark changelog : ℕ) (queries : List Live) (kept : List Given) → Stands h count top mark changelog queries kept → g.stream ≡ A → g.time < FOREVER → top ≤ g.time
+    → Stands (h ++ Rec g ∷ []) (count + 1) g.time mark (max changelog (g.time + 1)) queries (kept_with queries kept g) × IsFed run_setup h (Rec g) (record { answer = None; pieces = [] })
+kept-step h g count top mark changelog [] kept s a within up =
+    record-step h g count top mark changelog [] kept s a within up kept
+    (All-by (IsReached top changelog) (IsReached g.time (max changelog (g.time + 1))) (λ e p. let b = p.0 in let c = p.1 in (omega (arith, b, up), omega (arith, c))) kept s.reached)
+    s.rising tt
+kept-step h g count top mark changelog (q ∷ queries) kept s a within up =
+    let behind = s.clock.behind in
+    record-step h g count top mark changelog (q ∷ queries) kept s a within up (kept ++ g ∷ [])
+    (All-push (IsReached g.time (max changelog (g.time + 1))) kept g
+    (All-by (IsReached top changelog) (IsReached g.time (max changelog (g.time + 1))) (λ e p. let b = p.0 in let c = p.1 in (omega (arith, b, up), omega (arith, c))) kept s.reached)
+    (omega arith, omega arith))
+    (NeverFalls-push kept g s.rising (All-by (IsReached top changelog) (λ (e : Given). e.time ≤ g.time) (λ e p. let b = p.0 in omega (arith, b, up)) kept s.reached))
+    (All-by (Sees (accepted h) mark kept) (Sees (accepted h ++ g ∷ []) mark (kept ++ g ∷ [])) (λ q v. Sees-push (accepted h) kept g mark q (omega (arith, behind, up)) v) (q ∷ queries) s.sees)
+
+-- where the watermark passes some of the kept records, the texts grow by their rows
+text_of-grown : (h h' : List Item) (count top mark changelog t : ℕ) (queries : List Live) (kept passed rest : List Given) → Stands h count top mark changelog queries kept → IsNumbered 1 queries → mark ≤ t
+    → kept ≡ passed ++ rest → AllByRecursion (λ (g : Given). g.time < t) passed → AllByRecursion (λ (g : Given). t ≤ g.time) rest → accepted h' ≡ accepted h
+    → (n : ℕ) → text_of run_setup h' n ≡ of_number n (λ (q : Live). rows_from q.from (below t (accepted h'))) queries
+    → text_of run_setup h' n ≡ text_of run_setup h n ++ bytes_for n (pieces_of queries passed)
+text_of-grown h h' count top mark changelog t queries kept passed rest s numbered up whole before after same n is =
+    is
+    ∙ ap (λ all. of_number n (λ (q : Live). rows_from q.from (below t all)) queries) same
+    ∙ flat_map-same (λ (q : Live). cond (eqb q.n n) (rows_from q.from (below t (accepted h))) []) (λ (q : Live). cond (eqb q.n n) (rows_from q.from (below mark (accepted h)) ++ rows_from q.from passed) []) queries
+    (All-by (Sees (accepted h) mark kept) (λ (q : Live). cond (eqb q.n n) (rows_from q.from (below t (accepted h))) [] ≡ cond (eqb q.n n) (rows_from q.from (below mark (accepted h)) ++ rows_from q.from passed) [])
+    (λ q v. ap (λ l. cond (eqb q.n n) l []) (rows-passed (accepted h) kept passed rest mark t q up v whole before after)) queries s.sees)
+    ∙ of_number-both n (λ q. rows_from q.from (below mark (accepted h))) (λ q. rows_from q.from passed) 1 queries numbered
+    ∙ ap₂ (λ x y. x ++ y) (sym (text_of-stands s n)) (sym (bytes_for-pieces n (λ q. rows_from q.from passed) queries))
+
+-- a mark of stream a that is not back
+pub mark-step : (h : List Item) (t count top mark changelog : ℕ) (queries : List Live) (kept passed rest : List Given) → Stands h count top mark changelog queries kept → IsNumbered 1 queries → t < FOREVER → mark ≤ t → IsCut t kept passed rest
+    → Stands (h ++ Mark A t ∷ []) (count + 1) (max top t) t (max changelog (t + 1)) queries rest × IsFed run_setup h (Mark A t) (record { answer = None; pieces = pieces_of queries passed })
+mark-step h t count top mark changelog queries kept passed rest s numbered within up cut =
+    let clock = Clock-push h (Mark A t) top mark changelog s.clock refl refl (omega arith) (omega arith) (omega (arith, within)) in
+    let refuse = refusal-Mark h t s.clock ∙ ap (λ b. cond b (Some Back) None) (le-ltb t mark up) in
+    let living = book-same h (Mark A t) refl in
+    let same = records-same h (Mark A t) refl in
+    let rising = NeverFalls-rest passed rest (subst NeverFalls cut.whole s.rising) in
+    let after = after-mark t rest cut.from rising in
+    let next : Stands (h ++ Mark A t ∷ []) (count + 1) (max top t) t (max changelog (t + 1)) queries rest = record {
+      lines = ap (λ n. n + 1) s.lines ∙ sym (length_push h (Mark A t));
+      clock = Clock-at clock refl (omega (arith, up)) refl;
+      book_is = living ∙ s.book_is;
+      past = subst (λ l. AllByRecursion (IsPast (count + 1) (max top t) (max changelog (t + 1))) l) (sym same)
+          (All-by (IsPast count top changelog) (IsPast (count + 1) (max top t) (max changelog (t + 1))) (λ r p. IsPast-later r (omega arith) (omega arith) (omega arith) p) (records run_setup h) s.past);
+      ordered = subst InOrder (sym same) s.ordered;
+      reached = All-by (IsReached top changelog) (IsReached (max top t) (max changelog (t + 1))) (λ e p. let b = p.0 in let c = p.1 in (omega (arith, b), omega (arith, c))) rest
+          (All-rest (IsReached top changelog) passed rest (subst (λ l. AllByRecursion (IsReached top changelog) l) cut.whole s.reached));
+      rising = rising;
+      sees = subst (λ l. AllByRecursion (Sees l t rest) queries) (sym (accepted-same h (h ++ Mark A t ∷ []) same))
+          (All-by (Sees (accepted h) mark kept) (Sees (accepted h) t rest) (λ q v. Sees-cut (accepted h) kept passed rest mark t q up v cut.whole cut.before after) queries s.sees);
+    } in
+    let grown = λ (n : ℕ). text_of-grown h (h ++ Mark A t ∷ []) count top mark changelog t queries kept passed rest s numbered up cut.whole cut.before after (accepted-same h (h ++ Mark A t ∷ []) same) n (text_of-stands next n) in (
+      next,
+      record {
+        answer = sym (ap (λ o. answered h (or_else o None)) refuse);
+        adds = Adds-pieces h (h ++ Mark A t ∷ []) queries passed living s.book_is grown;
+      },
+    )
+
+shut-is : (h : List Item) → has_ended run_setup h A ≡ false → shut run_setup h ≡ h ++ End A ∷ []
+shut-is h e = ap (λ b. h ++ cond (not b) (End A ∷ []) []) e
+
+-- the end of stream a, which passes all records kept
+pub shut-step : (h : List Item) (count top mark changelog : ℕ) (queries : List Live) (kept : List Given) → Stands h count top mark changelog queries kept → IsNumbered 1 queries → Adds run_setup h (shut run_setup h) [] (pieces_of queries kept)
+shut-step h count top mark changelog queries kept s numbered =
+    let ends = s.clock.ends in
+    let behind = s.clock.behind in
+    let ahead = s.clock.ahead in
+    let living = book-same h (End A) refl in
+    let same = records-same h (End A) refl in
+    let within : AllByRecursion IsTimely (records run_setup h) =
+    All-by (IsPast count top changelog) IsTimely (λ r p. (p.stream, let a = p.past in omega (arith, a, ends))) (records run_setup h) s.past in
+    let before = All-by (IsReached top changelog) (λ (e : Given). e.time < FOREVER) (λ e p. let c = p.1 in omega (arith, c, ends)) kept s.reached in
+    let is = λ (n : ℕ). text_of-is (h ++ End A ∷ []) FOREVER queries n (living ∙ s.book_is) (subst InOrder (sym same) s.ordered) (subst (λ l. AllByRecursion IsTimely l) (sym same) within)
+    (ap (λ b. cond b FOREVER (top_mark run_setup (h ++ End A ∷ []) A)) (ended-by h s.clock.going)) in
+    subst (λ l. Adds run_setup h l [] (pieces_of queries kept)) (sym (shut-is h s.clock.going))
+    (Adds-pieces h (h ++ End A ∷ []) queries kept living s.book_is (λ n.
+    text_of-grown h (h ++ End A ∷ []) count top mark changelog FOREVER queries kept kept [] s numbered (omega (arith, behind, ahead, ends)) (sym (append-nil kept)) before tt (accepted-same h (h ++ End A ∷ []) same) n (is n)))
+
+-- a creation where all slots are taken
+pub full-step : (h : List Item) (text : List ℕ) (count top mark changelog : ℕ) (queries : List Live) (kept : List Given) → Stands h count top mark changelog queries kept → text ≡ codes "select from a" → 64 ≤ length queries
+    → Stands (h ++ Create text ∷ []) (count + 1) top mark changelog queries kept × IsFed run_setup h (Create text) (record { answer = answer_at count Full; pieces = [] })
+full-step h text count top mark changelog queries kept s is full =
+    let slot = has_slot-is h queries s.book_is ∙ le-ltb (length queries) 64 full in
+    refused-step h (Create text) Full count top mark changelog queries kept s
+    (Clock-other h (Create text) s.clock refl)
+    (book-same h (Create text) (ap (λ b. cond b (opened (book run_setup h) (plan_of text) (changelog_time run_setup h)) (book run_setup h)) slot))
+    (records-same h (Create text) refl)
+    (ap (λ p. cond (is_none p) (Some Later) (cond (has_slot run_setup (book run_setup h)) None (Some Full))) (ap plan_of is) ∙ ap (λ b. cond b None (Some Full)) slot)
+    refl
+
+query_at : ℕ → ℕ → Query
+query_at n at = record { n = n; plan = record { left = A }; from = at; to = FOREVER; live = true }
+
+All-given : (P : Given → Type 0) (rs : List Record) → AllByRecursion (λ (r : Record). P r.given) rs → AllByRecursion P (map (λ (r : Record). r.given) rs)
+All-given P [] h = tt
+All-given P (r ∷ rs) h = (h.0, All-given P rs h.1)
+
+-- a creation where a slot is free
+pub create-step : (h : List Item) (text : List ℕ) (count top mark changelog : ℕ) (queries : List Live) (kept : List Given) → Stands h count top mark changelog queries kept → IsNumbered 1 queries → text ≡ codes "select from a" → length queries < 64
+    → Stands (h ++ Create text ∷ []) (count + 1) top mark changelog (queries ++ (record { n = length queries + 1; from = changelog }) ∷ []) kept
+    × IsFed run_setup h (Create text) (record { answer = answer_at count (Created (length queries + 1) changelog); pieces = [] })
+unfolding query_at
+create-step h text count top mark changelog queries kept s numbered is free =
+    let slot = has_slot-is h queries s.book_is ∙ lt-ltb (length queries) 64 free in
+    let same = records-same h (Create text) refl in
+    let all = accepted-same h (h ++ Create text ∷ []) same in
+    let many = ap length s.book_is ∙ length-map queries query_of in
+    let early : AllByRecursion (λ (g : Given). g.time < changelog) (accepted h) =
+    All-given (λ (g : Given). g.time < changelog) (records run_setup h) (All-by (IsPast count top changelog) (λ (r : Record). r.given.time < changelog) (λ r p. p.past) (records run_setup h) s.past) in
+    let before = All-by (IsReached top changelog) (λ (e : Given). e.time < changelog) (λ e p. p.1) kept s.reached in
+    let living : book run_setup (h ++ Create text ∷ []) ≡ map query_of (queries ++ new ∷ []) =
+    book-push run_setup h (Create text)
+    ∙ ap (λ b. cond b (opened (book run_setup h) (plan_of text) (changelog_time run_setup h)) (book run_setup h)) slot
+    ∙ ap (λ p. opened (book run_setup h) p (changelog_time run_setup h)) (ap plan_of is)
+    ∙ ap (λ m. book run_setup h ++ query_at (m + 1) (changelog_time run_setup h) ∷ []) many
+    ∙ ap (λ at. book run_setup h ++ query_at (length queries + 1) at ∷ []) s.clock.changelog_is
+    ∙ ap (λ l. l ++ query_of new ∷ []) s.book_is
+    ∙ sym (map-append query_of queries (new ∷ [])) in
+    let next : Stands (h ++ Create text ∷ []) (count + 1) top mark changelog (queries ++ new ∷ []) kept = record {
+      lines = ap (λ n. n + 1) s.lines ∙ sym (length_push h (Create text));
+      clock = Clock-other h (Create text) s.clock refl;
+      book_is = living;
+      past = subst (λ l. AllByRecursion (IsPast (count + 1) top changelog) l) (sym same)
+          (All-by (IsPast count top changelog) (IsPast (count + 1) top changelog) (λ t p. IsPast-later t (omega arith) (omega arith) (omega arith) p) (records run_setup h) s.past);
+      ordered = subst InOrder (sym same) s.ordered;
+      reached = s.reached;
+      rising = s.rising;
+      sees = subst (λ l. AllByRecursion (Sees l mark kept) (queries ++ new ∷ [])) (sym all)
+          (All-push (Sees (accepted h) mark kept) queries new s.sees (Sees-new (accepted h) kept mark changelog (length queries + 1) early before));
+    } in
+    let accept = ap (λ p. cond (is_none p) (Some Later) (cond (has_slot run_setup (book run_setup h)) None (Some Full))) (ap plan_of is) ∙ ap (λ b. cond b None (Some Full)) slot in (
+      next,
+      record {
+        answer = ap (λ n. answer_at n (Created (length queries + 1) changelog)) s.lines
+            ∙ sym (ap (λ o. answered h (or_else o (acceptance_word run_setup h (Create text)))) accept ∙ ap₂ (λ m at. answer_at (length h) (Created (m + 1) at)) many s.clock.changelog_is);
+        adds = record {
+          book = numbers-are (h ++ Create text ∷ []) (queries ++ new ∷ []) living ∙ map-append (λ (q : Live). q.n) queries (new ∷ []) ∙ ap (λ l. l ++ (length queries + 1) ∷ []) (sym (numbers-are h queries s.book_is));
+          fresh = λ n some. let m = times-one n (length queries + 1) some in ap (times n) (numbers-are h queries s.book_is) ∙ times-above n 1 queries numbered (omega (arith, m));
+          text = λ n. text_of-stands next n
+              ∙ ap (λ l. of_number n (λ (q : Live). rows_from q.from (below mark l)) (queries ++ new ∷ [])) all
+              ∙ flat_map-append (λ (q : Live). cond (eqb q.n n) (rows_from q.from (below mark (accepted h))) []) queries (new ∷ [])
+              ∙ ap₂ (λ x y. x ++ (cond (eqb (length queries + 1) n) y [] ++ [])) (sym (text_of-stands s n)) (late-all mark changelog (accepted h) early)
+              ∙ ap (λ l. text_of run_setup h n ++ (l ++ [])) (cond_same (eqb (length queries + 1) n) []);
+          known = tt;
+        };
+      },
+    )
+  where
+    new : Live
+    new = record { n = length queries + 1; from = changelog }

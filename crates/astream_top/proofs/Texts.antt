@@ -1,0 +1,138 @@
+-- The text of a query, where the accepted records stand in order.
+use Rattle.std.proofs.Common.{◌≡◌, ℕ, ◌+◌, ◌<◌, ◌&&◌, ◌||◌, nat_lt, nat_le, eqb, Bool, true, false, cond, List, [], ◌∷◌, ◌++◌, map, refl, sym, ap, ◌∙◌, add-one, arith}
+use Rattle.std.specs.List.{filter, flat_map, AllByRecursion}
+use Rattle.std.proofs.lemmas.Bool.{lt-ltb}
+use Rattle.std.proofs.lemmas.Bool.Decides.{nat_tests}
+use Rattle.as_base.specs.declared.item.TheConstants.{FOREVER}
+use Rattle.as_base.specs.declared.item.StreamId.TheVariants.{A}
+use Rattle.as_base.specs.declared.item.Given.{Given}
+use Rattle.as_base.specs.declared.item.Record.{Record}
+use Rattle.as_base.specs.declared.item.Item.{Item}
+use Rattle.as_base.specs.Range.{place_of}
+use Rattle.astream_top.specs.declared.session.Live.{Live}
+use Rattle.astream_top.specs.Setup.{run_setup}
+use Rattle.astream_top.specs.Acceptance.{watermark}
+use Rattle.astream_top.specs.View.{records, view, is_mine, comes_before, put_in_order, in_order, row_text, text, text_of}
+use Rattle.astream_top.specs.Kept.{rows_from, below}
+use Rattle.astream_top.specs.Session.{query_of, InOrder, accepted}
+use Rattle.astream_top.proofs.Each.{All-by, All-push, All-filter, All-every, flat_map-map, flat_map-same}
+use Rattle.astream_top.proofs.Numbers.{of_number}
+use Rattle.as_outside.specs.Outputs.{times}
+use Rattle.astream_top.specs.Setup.{Setup}
+use Rattle.astream_top.specs.Book.{Query, book, numbers}
+use Rattle.std.proofs.lemmas.List.Sums.{sum_by-cons}
+
+InOrder-filter : (p : Record → Bool) (rs : List Record) → InOrder rs → InOrder (filter p rs)
+InOrder-filter p [] h = tt
+InOrder-filter p (r ∷ rs) h = go (p r) (InOrder-filter p rs h.1)
+  where
+    go : (b : Bool) → InOrder (filter p rs) → InOrder (cond b (r ∷ filter p rs) (filter p rs))
+    go true rest = (All-filter (λ s. comes_before r s ≡ true) p rs h.0, rest)
+    go false rest = rest
+
+pub InOrder-push : (rs : List Record) (r : Record) → InOrder rs → AllByRecursion (λ s. comes_before s r ≡ true) rs → InOrder (rs ++ r ∷ [])
+InOrder-push [] r h before = (tt, tt)
+InOrder-push (s ∷ rs) r h before = (All-push (λ t. comes_before s t ≡ true) rs r h.0 before.0, InOrder-push rs r h.1 before.1)
+
+numbers_apart : (a b m n : ℕ) → (nat_lt a b || (eqb a b && nat_lt m n)) ≡ true → (nat_lt b a || (eqb b a && nat_lt n m)) ≡ false
+numbers_apart a b m n h = grind (arith, nat_tests)
+
+comes_before-apart : (r s : Record) → comes_before r s ≡ true → comes_before s r ≡ false
+comes_before-apart r s h = numbers_apart r.given.time s.given.time r.seq s.seq h
+
+in_order-same : (rs : List Record) → InOrder rs → in_order rs ≡ rs
+in_order-same [] h = refl
+in_order-same (r ∷ rs) h = ap (put_in_order r) (in_order-same rs h.1) ∙ first rs h.0
+  where
+    first : (l : List Record) → AllByRecursion (λ s. comes_before r s ≡ true) l → put_in_order r l ≡ r ∷ l
+    first [] a = refl
+    first (s ∷ l) a = ap (λ b. cond b (s ∷ put_in_order r l) (r ∷ s ∷ l)) (comes_before-apart r s a.0)
+
+flat_map-filter : {X Y : Type 0} (f : X → List Y) (p : X → Bool) (xs : List X) → flat_map f (filter p xs) ≡ flat_map (λ x. cond (p x) (f x) []) xs
+flat_map-filter f p [] = refl
+flat_map-filter f p (x ∷ xs) = go (p x) (flat_map-filter f p xs)
+  where
+    go : (b : Bool) → flat_map f (filter p xs) ≡ flat_map (λ x. cond (p x) (f x) []) xs → flat_map f (cond b (x ∷ filter p xs) (filter p xs)) ≡ cond b (f x) [] ++ flat_map (λ x. cond (p x) (f x) []) xs
+    go true e = ap (λ l. f x ++ l) e
+    go false e = e
+
+cond_swap : {X : Type 0} (a b : Bool) (x y : X) → cond a (cond b x y) y ≡ cond b (cond a x y) y
+cond_swap true true x y = refl
+cond_swap true false x y = refl
+cond_swap false true x y = refl
+cond_swap false false x y = refl
+
+-- where the record is of stream a and within time, it is the query's from the query's time on
+is_mine-from : (q : Live) (r : Record) → r.given.stream ≡ A → r.given.time < FOREVER → is_mine (query_of q) A r ≡ nat_le q.from r.given.time
+is_mine-from q r a within =
+    ap (λ s. eqb (place_of s) 0 && nat_le q.from r.given.time && nat_lt r.given.time FOREVER) a
+    ∙ ap (λ b. nat_le q.from r.given.time && b) (lt-ltb r.given.time FOREVER within)
+    ∙ and_true (nat_le q.from r.given.time)
+  where
+    and_true : (b : Bool) → (b && true) ≡ b
+    and_true true = refl
+    and_true false = refl
+
+-- the record is of stream a and has a time
+abbrev pub IsTimely : Record → Type 0
+IsTimely r = (r.given.stream ≡ A) × (r.given.time < FOREVER)
+
+-- the text of a living query: its rows of the accepted records below the watermark
+pub text-is : (h : List Item) (q : Live) → InOrder (records run_setup h) → AllByRecursion IsTimely (records run_setup h)
+    → text (view run_setup h) (query_of q) ≡ rows_from q.from (below (watermark run_setup h A) (accepted h))
+text-is h q ordered within =
+    ap (λ l. flat_map row (filter passed l)) (in_order-same (filter mine rs) (InOrder-filter mine rs ordered))
+    ∙ flat_map-filter row passed (filter mine rs)
+    ∙ flat_map-filter (λ r. cond (passed r) (row r) []) mine rs
+    ∙ flat_map-same (λ r. cond (mine r) (cond (passed r) (row r) []) []) (λ r. cond (early r.given) (wanted r.given) []) rs (All-by _ _ same rs within)
+    ∙ sym (flat_map-map (λ g. cond (early g) (wanted g) []) (λ (r : Record). r.given) rs)
+    ∙ sym (flat_map-filter wanted early (accepted h))
+  where
+    w : ℕ
+    w = watermark run_setup h A
+
+    rs : List Record
+    rs = records run_setup h
+
+    row : Record → List ℕ
+    row r = row_text r.given
+
+    mine : Record → Bool
+    mine r = is_mine (query_of q) A r
+
+    passed : Record → Bool
+    passed r = nat_le (r.given.time + 1) w
+
+    early : Given → Bool
+    early g = nat_lt g.time w
+
+    wanted : Given → List ℕ
+    wanted g = cond (nat_le q.from g.time) (row_text g) []
+
+    same : (r : Record) → IsTimely r → cond (mine r) (cond (passed r) (row r) []) [] ≡ cond (early r.given) (wanted r.given) []
+    same r p =
+        ap (λ b. cond b (cond (passed r) (row r) []) []) (is_mine-from q r p.0 p.1)
+        ∙ ap (λ t. cond (nat_le q.from r.given.time) (cond (nat_le t w) (row r) []) []) (add-one r.given.time)
+        ∙ cond_swap (nat_le q.from r.given.time) (early r.given) (row r) []
+
+-- the text of output n, where the watermark is w
+pub text_of-is : (h : List Item) (w : ℕ) (queries : List Live) (n : ℕ) → book run_setup h ≡ map query_of queries → InOrder (records run_setup h) → AllByRecursion IsTimely (records run_setup h) → watermark run_setup h A ≡ w
+    → text_of run_setup h n ≡ of_number n (λ (q : Live). rows_from q.from (below w (accepted h))) queries
+text_of-is h w queries n living ordered within is =
+    ap (flat_map (λ (q : Query). cond (eqb q.n n) (text (view run_setup h) q) [])) living
+    ∙ flat_map-map (λ (q : Query). cond (eqb q.n n) (text (view run_setup h) q) []) query_of queries
+    ∙ flat_map-same (λ (q : Live). cond (eqb q.n n) (text (view run_setup h) (query_of q)) []) (λ (q : Live). cond (eqb q.n n) (rows_from q.from (below w (accepted h))) []) queries
+    (All-every (λ (q : Live). cond (eqb q.n n) (text (view run_setup h) (query_of q)) [] ≡ cond (eqb q.n n) (rows_from q.from (below w (accepted h))) []) (λ q. ap (λ l. cond (eqb q.n n) l []) (text-is h q ordered within ∙ ap (λ v. rows_from q.from (below v (accepted h))) is)) queries)
+
+-- an output that was never created has no text
+text-none : (n : ℕ) (f : Query → List ℕ) (qs : List Query) → times n (map (λ (q : Query). q.n) qs) ≡ 0 → flat_map (λ (q : Query). cond (eqb q.n n) (f q) []) qs ≡ []
+text-none n f [] e = refl
+text-none n f (q ∷ qs) e = go (eqb q.n n) (sym (sum_by-cons (λ m. cond (eqb m n) 1 0) q.n (map (λ (q : Query). q.n) qs)) ∙ e) (text-none n f qs)
+  where
+    go : (b : Bool) → cond b 1 0 + times n (map (λ (q : Query). q.n) qs) ≡ 0 → (times n (map (λ (q : Query). q.n) qs) ≡ 0 → flat_map (λ (q : Query). cond (eqb q.n n) (f q) []) qs ≡ [])
+        → cond b (f q) [] ++ flat_map (λ (q : Query). cond (eqb q.n n) (f q) []) qs ≡ []
+    go true z rest = absurd (omega (arith, z))
+    go false z rest = rest (omega (arith, z))
+
+pub text_of-none : (c : Setup) (h : List Item) (n : ℕ) → times n (numbers c h) ≡ 0 → text_of c h n ≡ []
+text_of-none c h n e = text-none n (text (view c h)) (book c h) e

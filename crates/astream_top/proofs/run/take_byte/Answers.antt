@@ -1,0 +1,14 @@
+use Rattle.std.proofs.Common.{[], append-nil}
+use Rattle.as_outside.proofs.Calls.{tells_none}
+use Rattle.astream_top.proofs.Goes.{goes_weaker}
+use Rattle.astream_top.proofs.run.take_byte.Goals as goal
+
+pub returns-in-More-clause-calls : goal.returns-in-More-clause-calls
+returns-in-More-clause-calls g c = λ bytes calls before.
+    let step = rw c.in-More.is at (c.in_ok-item.ensures.reads bytes before.reads) in
+    ([], tells_none _, (tt, record { reads = step.0; processed = rw (step.1, append-nil, append-nil) before.processed }))
+
+pub returns-in-Line-clause-calls : goal.returns-in-Line-clause-calls
+returns-in-Line-clause-calls g c = λ bytes calls before.
+    let step = rw c.in-Line.is at (c.in_ok-item.ensures.reads bytes before.reads) in
+    goes_weaker _ _ _ _ _ (λ more processed. record { reads = step.0; processed = rw step.1 processed }) (c.process.ensures.calls _ calls before.processed)

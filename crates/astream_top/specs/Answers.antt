@@ -1,0 +1,52 @@
+use Rattle.std.specs.Prelude.{ℕ, ◌+◌, Option, Some, None, List, [], ◌∷◌, ◌++◌, length, codes, decimal}
+use Rattle.as_base.specs.declared.item.Item.{Item}
+use Rattle.as_base.specs.declared.item.Item.TheVariants.{Rec, Mark, End, Create, Delete, Bad}
+use Rattle.as_base.specs.declared.answer.Word.{Word}
+use Rattle.as_base.specs.declared.answer.Word.TheVariants.{Created, Deleted}
+use Rattle.as_base.specs.declared.answer.Answer.{Answer}
+use Rattle.as_lineform.specs.Answer.{text_of}
+use Rattle.astream_top.specs.Setup.{Setup}
+use Rattle.astream_top.specs.Acceptance.{changelog_time}
+use Rattle.astream_top.specs.Book.{book, refusal}
+
+-- what each item gives, by the items before it, one after another
+abbrev pub walk : {X : Type 0} → (List Item → Item → List X) → List Item → List Item → List X
+walk f before [] = []
+walk f before (x ∷ h) = f before x ++ walk f (before ++ x ∷ []) h
+
+-- the word of an accepted item, if it has one: controls alone have
+abbrev pub acceptance_word : Setup → List Item → Item → Option Word
+acceptance_word c h (Create text) = Some (Created (length (book c h) + 1) (changelog_time c h))
+acceptance_word c h (Delete n) = Some (Deleted n (changelog_time c h))
+acceptance_word c h (Rec g) = None
+acceptance_word c h (Mark s t) = None
+acceptance_word c h (End s) = None
+acceptance_word c h (Bad cause) = None
+
+abbrev pub or_else : Option Word → Option Word → Option Word
+or_else (Some w) other = Some w
+or_else None other = other
+
+-- the answer with this word to the item after `h`
+abbrev pub answered : List Item → Option Word → Option Answer
+answered h None = None
+answered h (Some w) = Some (record { line = length h + 1; word = w })
+
+-- The answer to an item after the items `h`: its refusal, or the word of its acceptance, or none.
+abbrev pub answer_to : Setup → List Item → Item → Option Answer
+answer_to c h x = answered h (or_else (refusal c h x) (acceptance_word c h x))
+
+abbrev pub text_of_option : Option Answer → List ℕ
+text_of_option None = []
+text_of_option (Some a) = text_of a
+
+abbrev pub answer_text_to : Setup → List Item → Item → List ℕ
+answer_text_to c h x = text_of_option (answer_to c h x)
+
+-- The text of the answers to all items, in order.
+abbrev pub answers_text : Setup → List Item → List ℕ
+answers_text c h = walk (answer_text_to c) [] h
+
+-- the last line of a run that took this many lines
+abbrev pub done_text : ℕ → List ℕ
+done_text lines = codes "done " ++ decimal lines ++ codes "\n"

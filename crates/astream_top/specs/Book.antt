@@ -1,0 +1,82 @@
+-- The queries that a list of items made, and the word that each item is refused by.
+use Rattle.std.specs.Prelude.{ℕ, ◌+◌, ◌==◌, ◌&&◌, not, nat_lt, if◌then◌else◌, Bool, true, false, Option, Some, None, is_none, List, [], ◌∷◌, ◌++◌, map, length, count_by}
+use Rattle.std.specs.List.{list_any}
+use Rattle.as_base.specs.declared.item.TheConstants.{FOREVER}
+use Rattle.as_base.specs.declared.item.StreamId.{StreamId}
+use Rattle.as_base.specs.declared.item.Cause.{Cause}
+use Rattle.as_base.specs.declared.item.Cause.TheVariants.{Long, Form, Later}
+use Rattle.as_base.specs.declared.item.Item.{Item}
+use Rattle.as_base.specs.declared.item.Item.TheVariants.{Rec, Mark, End, Create, Delete, Bad}
+use Rattle.as_base.specs.declared.answer.Word.{Word}
+use Rattle.as_base.specs.declared.answer.Word.TheVariants as word
+use Rattle.astream_top.specs.Setup.{Setup, is_configured}
+use Rattle.astream_top.specs.Acceptance.{front, top_mark, has_ended, changelog_time}
+use Rattle.astream_top.specs.Plan.{Plan, plan_of}
+
+-- A query of the book: its number, its plan, its life from a time up to but not including another, and whether it lives.
+pub record Query : Type 0 where
+  pub n : ℕ
+  pub plan : Plan
+  pub from : ℕ
+  pub to : ℕ
+  pub live : Bool
+
+-- fewer queries live than there are slots
+abbrev pub has_slot : Setup → List Query → Bool
+has_slot c book = nat_lt (count_by (λ (q : Query). q.live) book) c.slots
+
+abbrev pub is_live : ℕ → Query → Bool
+is_live n q = q.n == n && q.live
+
+abbrev pub opened : List Query → Option Plan → ℕ → List Query
+opened book None at = book
+opened book (Some plan) at = book ++ (record { n = length book + 1; plan = plan; from = at; to = FOREVER; live = true }) ∷ []
+
+abbrev pub closed : ℕ → ℕ → Query → Query
+closed n at q = if is_live n q then record { n = q.n; plan = q.plan; from = q.from; to = at; live = false } else q
+
+-- the book after one more item, where `before` came before it
+abbrev pub book_after : Setup → List Item → List Query → Item → List Query
+book_after c before book (Create text) = if has_slot c book then opened book (plan_of text) (changelog_time c before) else book
+book_after c before book (Delete n) = map (closed n (changelog_time c before)) book
+book_after c before book (Rec g) = book
+book_after c before book (Mark s t) = book
+book_after c before book (End s) = book
+book_after c before book (Bad cause) = book
+
+abbrev pub book_from : Setup → List Item → List Query → List Item → List Query
+book_from c before book [] = book
+book_from c before book (x ∷ h) = book_from c (before ++ x ∷ []) (book_after c before book x) h
+
+-- The queries of the items, by number.
+abbrev pub book : Setup → List Item → List Query
+book c h = book_from c [] [] h
+
+-- the numbers of the queries
+abbrev pub numbers : Setup → List Item → List ℕ
+numbers c h = map (λ (q : Query). q.n) (book c h)
+
+-- why a stream item is refused: the first of these, or the last word where the item is behind
+abbrev pub stream_refusal : Setup → List Item → StreamId → Bool → Word → Option Word
+stream_refusal c h s behind last =
+    if not (is_configured c s) then Some word.Stranger
+    else (if has_ended c h s then Some word.Ended
+    else (if behind then Some last else None))
+
+abbrev pub refusal_of_cause : Cause → Word
+refusal_of_cause Long = word.Long
+refusal_of_cause Form = word.Form
+refusal_of_cause Later = word.Later
+
+-- The word that an item is refused by after the items `h`, if it is refused.
+abbrev pub refusal : Setup → List Item → Item → Option Word
+refusal c h (Rec g) = stream_refusal c h g.stream (nat_lt g.time (front c h g.stream)) word.Late
+refusal c h (Mark s t) = stream_refusal c h s (nat_lt t (top_mark c h s)) word.Back
+refusal c h (End s) = stream_refusal c h s false word.Ended
+refusal c h (Create text) = if is_none (plan_of text) then Some word.Later else (if has_slot c (book c h) then None else Some word.Full)
+refusal c h (Delete n) = if list_any (is_live n) (book c h) then None else Some word.Unknown
+refusal c h (Bad cause) = Some (refusal_of_cause cause)
+
+-- the item is accepted after the items `h`
+abbrev pub accepts : Setup → List Item → Item → Bool
+accepts c h x = is_none (refusal c h x)

@@ -1,0 +1,7 @@
+use Rattle.std.specs.Prelude.{ℕ, Bool, false, List, [], ◌∷◌, codes}
+use Rattle.std.specs.Str.{bytes_eq}
+
+-- the words of a call are the one word `run`
+abbrev pub are_run : List (List ℕ) → Bool
+are_run (word ∷ []) = bytes_eq word (codes "run")
+are_run _ = false

@@ -1,0 +1,14 @@
+//! The top call of the service: lines in, answers and outputs out, through whatever desk it is given.
+#![tactic(auto)]
+
+mod deliver;
+mod pending;
+mod processor;
+mod rows;
+mod run;
+mod session;
+mod stop;
+mod top;
+
+pub use session::{SLOTS, STREAMS};
+pub use top::{MAX_BYTES, astream};

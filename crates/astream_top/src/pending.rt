@@ -1,0 +1,38 @@
+ghost use Rattle.std.specs.Prelude.{◌≡◌, IfOk, OnOk};
+ghost use Rattle.astream_top.specs.Kept.{kept_with, IsCut};
+
+use crate::session::Live;
+use as_base::{Given, NoMemory};
+use std::alloc::Global;
+use std::collections::VecDeque;
+
+/// Keeps a record where some query lives: no query that is created later wants it. The one refusal is `NoMemory`.
+pub fn keep(queries: &[Live], pending: &mut VecDeque<Given>, given: &Given) -> Result<(), NoMemory>
+    ensures { OnOk result (pending.new.items ≡ kept_with queries.now pending.old.items given.now) }
+{
+    if queries.is_empty() {
+        return Ok(());
+    }
+    pending.push_back(*given)?;
+    Ok(())
+}
+
+/// Takes the records before the mark off the front, up to the first that is not. The one refusal is `NoMemory`, after
+/// which some are lost.
+pub fn take_passed(
+    alloc: Global,
+    pending: &mut VecDeque<Given>,
+    mark: u64,
+) -> Result<Vec<Given>, NoMemory>
+    ensures { IfOk result (λ passed. IsCut mark pending.old.items passed.items pending.new.items) }
+{
+    let mut passed = Vec::new(alloc);
+    while let Some(next) = pending.front().copied() {
+        if next.time >= mark {
+            break;
+        }
+        pending.pop_front();
+        passed.push(next)?;
+    }
+    Ok(passed)
+}

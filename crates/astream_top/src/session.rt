@@ -1,0 +1,200 @@
+ghost use Rattle.std.specs.Prelude.{◌≡◌, ◌<◌, ◌+◌, ◌^◌, [], ◌∷◌, ◌++◌, List, ℕ, length, map, IfOk, OnOk, Some, None};
+ghost use Rattle.std.specs.List.{range_with_len};
+ghost use Rattle.as_base.specs.declared.item.Given.{Given};
+ghost use Rattle.as_base.specs.declared.item.Item.{Item};
+ghost use Rattle.as_base.specs.declared.item.Cause.{Cause};
+ghost use Rattle.as_base.specs.declared.item.StreamId.TheVariants.{A};
+ghost use Rattle.as_base.specs.Range.{InRange, IsTime};
+
+use crate::pending::{keep, take_passed};
+use crate::rows::pieces_of;
+use as_base::{Answer, Fed, Given, Item, NoMemory, Pieces, Word};
+use std::alloc::Global;
+use std::collections::VecDeque;
+
+/// How many streams are configured: stream a alone.
+pub const STREAMS: u8 = 1;
+
+/// How many queries may live at once.
+pub const SLOTS: u16 = 64;
+
+/// A query that lives: its number, and the changelog time of its creation in ticks.
+#[derive(Clone, Copy, Debug)]
+pub struct Live {
+    pub n: u64,
+    pub from: u64,
+}
+
+/// What is kept of the items taken so far: how many they are, the front and the watermark of stream a, the changelog
+/// time, the queries by number, and the accepted records that the watermark has not passed and that some query may
+/// want, by time. Times are in ticks, and none is above `FOREVER`.
+#[derive(Debug, Drop)]
+pub struct Session {
+    alloc: Global,
+    pub items: u64,
+    pub front: u64,
+    pub mark: u64,
+    pub changelog_time: u64,
+    pub queries: Vec<Live>,
+    pub pending: VecDeque<Given>,
+    ghost numbered: { map (λ q. q.n) queries.items ≡ range_with_len 1 (length queries.items) },
+}
+
+// What an item that is refused brings about.
+fn refused(alloc: Global, line: u64, word: Word) -> Fed
+    ensures { result ≡ record { answer = Some (record { line = line; word = word }); pieces = [] } }
+{
+    Fed {
+        answer: Some(Answer { line, word }),
+        pieces: Pieces::from_vec(Vec::new(alloc)),
+    }
+}
+
+impl Session {
+    ghost use Rattle.as_lineform.specs.Item.{IsTaken};
+    ghost use Rattle.astream_top.specs.Setup.{run_setup};
+    ghost use Rattle.astream_top.specs.Prompt.{shut};
+    ghost use Rattle.astream_top.specs.Outcome.{Adds, IsFed, ArePieces};
+    ghost use Rattle.astream_top.specs.Session.{StandsFor};
+
+    /// A session that has taken nothing.
+    pub fn new(alloc: Global) -> Session
+        ensures { StandsFor result [] }
+    {
+        Session {
+            alloc,
+            items: 0,
+            front: 0,
+            mark: 0,
+            changelog_time: 0,
+            queries: Vec::new(alloc),
+            pending: VecDeque::new(alloc),
+        }
+    }
+
+    // Takes a record.
+    fn take_record(&mut self, given: &Given) -> Result<Fed, NoMemory>
+        requires stream { given.now.stream ≡ A }
+        requires range { IsTime given.now.time }
+        requires few { self.old.items < 2 ^ 62 }
+        ensures stands { (h : List Item) → StandsFor self.old h → IfOk result (λ fed.
+            StandsFor self.new (h ++ Item.Rec given.now ∷ []) × IsFed run_setup h (Item.Rec given.now) fed) }
+        ensures order { IfOk result (λ fed. ArePieces fed.pieces) }
+        ensures count { OnOk result (self.new.items ≡ self.old.items + 1) }
+    {
+        self.items += 1;
+        if given.time < self.front {
+            return Ok(refused(self.alloc, self.items, Word::Late));
+        }
+        keep(&self.queries, &mut self.pending, given)?;
+        self.front = given.time;
+        self.changelog_time = self.changelog_time.max(given.time + 1);
+        Ok(Fed {
+            answer: None,
+            pieces: Pieces::from_vec(Vec::new(self.alloc)),
+        })
+    }
+
+    // Takes a watermark of stream a, which passes the kept records before it.
+    fn take_mark(&mut self, time: u64) -> Result<Fed, NoMemory>
+        requires range { IsTime time }
+        requires few { self.old.items < 2 ^ 62 }
+        ensures stands { (h : List Item) → StandsFor self.old h → IfOk result (λ fed.
+            StandsFor self.new (h ++ Item.Mark A time ∷ []) × IsFed run_setup h (Item.Mark A time) fed) }
+        ensures order { IfOk result (λ fed. ArePieces fed.pieces) }
+        ensures count { OnOk result (self.new.items ≡ self.old.items + 1) }
+    {
+        self.items += 1;
+        if time < self.mark {
+            return Ok(refused(self.alloc, self.items, Word::Back));
+        }
+        let passed = take_passed(self.alloc, &mut self.pending, time)?;
+        let pieces = pieces_of(self.alloc, &self.queries, &passed)?;
+        self.mark = time;
+        self.front = self.front.max(time);
+        self.changelog_time = self.changelog_time.max(time + 1);
+        Ok(Fed {
+            answer: None,
+            pieces,
+        })
+    }
+
+    // Takes the creation of the selection from stream a.
+    fn take_creation(&mut self) -> Result<Fed, NoMemory>
+        requires few { self.old.items < 2 ^ 62 }
+        ensures stands { (h : List Item) (text : List ℕ) → IsTaken (Item.Create text) → StandsFor self.old h → IfOk result (λ fed.
+            StandsFor self.new (h ++ Item.Create text ∷ []) × IsFed run_setup h (Item.Create text) fed) }
+        ensures order { IfOk result (λ fed. ArePieces fed.pieces) }
+        ensures count { OnOk result (self.new.items ≡ self.old.items + 1) }
+    {
+        self.items += 1;
+        let living = self.queries.len();
+        if living >= SLOTS as usize {
+            return Ok(refused(self.alloc, self.items, Word::Full));
+        }
+        let n = living as u64 + 1;
+        let at = self.changelog_time;
+        self.queries.push(Live { n, from: at })?;
+        let answer = Answer {
+            line: self.items,
+            word: Word::Created { n, at },
+        };
+        Ok(Fed {
+            answer: Some(answer),
+            pieces: Pieces::from_vec(Vec::new(self.alloc)),
+        })
+    }
+
+    // Takes a line that this stage does not read.
+    fn take_bad(&mut self) -> Fed
+        requires few { self.old.items < 2 ^ 62 }
+        ensures stands { (h : List Item) → StandsFor self.old h →
+            StandsFor self.new (h ++ Item.Bad Cause.Later ∷ []) × IsFed run_setup h (Item.Bad Cause.Later) result }
+        ensures order { ArePieces result.pieces }
+        ensures count { self.new.items ≡ self.old.items + 1 }
+    {
+        self.items += 1;
+        refused(self.alloc, self.items, Word::Later)
+    }
+
+    /// Takes an item: its answer by the rule, and the pieces of text that it makes due, by rising query number and none
+    /// of them empty. After `NoMemory` the session is of no more use.
+    pub fn feed(&mut self, item: &Item) -> Result<Fed, NoMemory>
+        requires taken { IsTaken item.now }
+        requires range { InRange item.now }
+        requires few { self.old.items < 2 ^ 62 }
+        ensures stands { (h : List Item) → StandsFor self.old h → IfOk result (λ fed.
+            StandsFor self.new (h ++ item.now ∷ []) × IsFed run_setup h item.now fed) }
+        ensures order { IfOk result (λ fed. ArePieces fed.pieces) }
+        ensures count { OnOk result (self.new.items ≡ self.old.items + 1) }
+    {
+        match item {
+            Item::Rec(given) => self.take_record(given),
+            Item::Mark(_, time) => self.take_mark(*time),
+            Item::Create(_) => self.take_creation(),
+            Item::Bad(_) => Ok(self.take_bad()),
+            Item::End(_) | Item::Delete(_) => unreachable!(),
+        }
+    }
+
+    /// Ends the streams that have not ended: the pieces of text that this makes due, by rising query number and none of
+    /// them empty.
+    pub fn finish(&mut self) -> Result<Pieces, NoMemory>
+        ensures due { (h : List Item) → StandsFor self.old h → IfOk result (λ pieces.
+            Adds run_setup h (shut run_setup h) [] pieces) }
+        ensures order { IfOk result ArePieces }
+    {
+        let passed = self.pending.make_contiguous();
+        pieces_of(self.alloc, &self.queries, passed)
+    }
+
+    /// How many items were taken.
+    pub fn items(&self) -> u64
+        ensures { (h : List Item) → StandsFor self.now h → result ≡ length h }
+    {
+        self.items
+    }
+}
+
+#[cfg(test)]
+mod tests;
