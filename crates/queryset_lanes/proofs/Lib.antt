@@ -1,0 +1,5 @@
+pub mod Words
+pub mod Counts
+pub mod First
+pub mod Blocks
+pub mod Slots
