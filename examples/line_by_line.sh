@@ -5,10 +5,11 @@
 set -eu
 input=$1
 here=$(cd "$(dirname "$0")" && pwd)
+# Builds the program first, if need be.
+"$here/../astream" run </dev/null >/dev/null
 rm -f query-*.txt
 coproc SERVICE { "$here/../astream" run; }
-answers=${SERVICE[0]}
-lines=${SERVICE[1]}
+exec {answers}<&"${SERVICE[0]}" {lines}>&"${SERVICE[1]}" {SERVICE[1]}>&-
 declare -A shown
 
 # Shows what has come since it was last called.
