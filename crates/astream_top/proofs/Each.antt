@@ -1,5 +1,5 @@
 -- Facts of each element of a list, by recursion, and lists made of lists.
-use Rattle.std.proofs.Common.{◌≡◌, Bool, true, false, cond, List, [], ◌∷◌, ◌++◌, map, refl, ap, ◌∙◌}
+use Rattle.std.proofs.Common.{◌≡◌, ℕ, ◌<◌, zero, suc, Bool, true, false, cond, List, [], ◌∷◌, ◌++◌, map, length, get_or, refl, ap, ◌∙◌, arith}
 use Rattle.std.specs.List.{filter, flat_map, AllByRecursion}
 
 -- a fact of each element under a weaker one
@@ -32,6 +32,10 @@ pub All-rest : {X : Type 0} (P : X → Type 0) (xs ys : List X) → AllByRecursi
 All-rest P [] ys h = h
 All-rest P (x ∷ xs) ys h = All-rest P xs ys h.1
 
+pub All-first : {X : Type 0} (P : X → Type 0) (xs ys : List X) → AllByRecursion P (xs ++ ys) → AllByRecursion P xs
+All-first P [] ys h = tt
+All-first P (x ∷ xs) ys h = (h.0, All-first P xs ys h.1)
+
 pub flat_map-map : {X Y Z : Type 0} (f : Y → List Z) (k : X → Y) (xs : List X) → flat_map f (map k xs) ≡ flat_map (λ x. f (k x)) xs
 flat_map-map f k [] = refl
 flat_map-map f k (x ∷ xs) = ap (λ l. f (k x) ++ l) (flat_map-map f k xs)
@@ -40,9 +44,23 @@ pub flat_map-same : {X Y : Type 0} (f g : X → List Y) (xs : List X) → AllByR
 flat_map-same f g [] h = refl
 flat_map-same f g (x ∷ xs) h = ap (λ l. l ++ flat_map f xs) h.0 ∙ ap (λ l. g x ++ l) (flat_map-same f g xs h.1)
 
+pub flat_map-filter : {X Y : Type 0} (f : X → List Y) (p : X → Bool) (xs : List X) → flat_map f (filter p xs) ≡ flat_map (λ x. cond (p x) (f x) []) xs
+flat_map-filter f p [] = refl
+flat_map-filter f p (x ∷ xs) = go (p x) (flat_map-filter f p xs)
+  where
+    go : (b : Bool) → flat_map f (filter p xs) ≡ flat_map (λ x. cond (p x) (f x) []) xs → flat_map f (cond b (x ∷ filter p xs) (filter p xs)) ≡ cond b (f x) [] ++ flat_map (λ x. cond (p x) (f x) []) xs
+    go true e = ap (λ l. f x ++ l) e
+    go false e = e
+
 pub map-map : {X Y Z : Type 0} (f : Y → Z) (k : X → Y) (xs : List X) → map f (map k xs) ≡ map (λ x. f (k x)) xs
 map-map f k [] = refl
 map-map f k (x ∷ xs) = ap (λ l. f (k x) ∷ l) (map-map f k xs)
+
+-- a fact of each element holds of each by its place
+pub All-at : {X : Type 0} (P : X → Type 0) (xs : List X) → AllByRecursion P xs → (i : ℕ) (d : X) → i < length xs → P (get_or xs i d)
+All-at P [] h i d within = absurd (omega (arith, within))
+All-at P (x ∷ xs) h zero d within = h.0
+All-at P (x ∷ xs) h (suc i) d within = All-at P xs h.1 i d (omega (arith, within))
 
 pub cond_same : {X : Type 0} (b : Bool) (x : X) → cond b x x ≡ x
 cond_same true x = refl

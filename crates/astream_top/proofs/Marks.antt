@@ -1,15 +1,16 @@
 -- The rows of records below a mark, and what is kept where a record comes or a mark passes.
-use Rattle.std.proofs.Common.{◌≡◌, ℕ, ◌≤◌, ◌<◌, nat_lt, cond, List, [], ◌∷◌, ◌++◌, refl, sym, ap, ap₂, ◌∙◌, append_assoc, append-nil, arith}
-use Rattle.std.specs.List.{AllByRecursion}
-use Rattle.std.proofs.lemmas.Bool.{lt-ltb, le-ltb, lt-leb}
+use Rattle.std.proofs.Common.{◌≡◌, ℕ, ◌≤◌, ◌<◌, zero, suc, nat_lt, nat_le, true, false, cond, List, [], ◌∷◌, ◌++◌, drop, refl, sym, ap, ap₂, ◌∙◌, append_assoc, append-nil, arith}
+use Rattle.std.specs.List.{flat_map, AllByRecursion}
+use Rattle.std.specs.List.Sorted.{IsNonDecreasingBy, IsPartitionPoint}
+use Rattle.std.proofs.lemmas.Bool.{lt-ltb, le-ltb, lt-leb, le-leb, ltb-true, ltb-false}
 use Rattle.std.proofs.lemmas.Grind.{flat_map-append}
 use Rattle.std.proofs.lemmas.List.Elements.{filter-append}
 use Rattle.as_base.specs.declared.item.Given.{Given}
 use Rattle.astream_top.specs.declared.session.Live.{Live}
 use Rattle.astream_top.specs.View.{row_text}
-use Rattle.astream_top.specs.Kept.{rows_from, below, NeverFalls, StartsFrom}
+use Rattle.astream_top.specs.Kept.{rows_from, below, not_before, NeverFalls, StartsFrom}
 use Rattle.astream_top.specs.Session.{Sees}
-use Rattle.astream_top.proofs.Each.{All-by, All-push, All-filter}
+use Rattle.astream_top.proofs.Each.{All-at, All-by, All-push, All-filter, All-first, flat_map-filter}
 
 rows-append : (from : ℕ) (xs ys : List Given) → rows_from from (xs ++ ys) ≡ rows_from from xs ++ rows_from from ys
 rows-append from xs ys = flat_map-append _ xs ys
@@ -84,3 +85,32 @@ late-all w changelog gs h = rows-late changelog (below w gs) (All-filter (λ (g 
 pub Sees-new : (all kept : List Given) (mark changelog n : ℕ) → AllByRecursion (λ (g : Given). g.time < changelog) all → AllByRecursion (λ (g : Given). g.time < changelog) kept → Sees all mark kept (record { n = n; from = changelog })
 Sees-new all kept mark changelog n a k w up =
     late-all w changelog all a ∙ sym (ap₂ (λ x y. x ++ y) (late-all mark changelog all a) (late-all w changelog kept k))
+
+pub NeverFalls-first : (xs ys : List Given) → NeverFalls (xs ++ ys) → NeverFalls xs
+NeverFalls-first [] ys h = tt
+NeverFalls-first (x ∷ xs) ys h = (All-first (λ (later : Given). x.time ≤ later.time) xs ys h.0, NeverFalls-first xs ys h.1)
+
+-- the time of records by their place does not fall
+pub NeverFalls-by : (gs : List Given) → NeverFalls gs → IsNonDecreasingBy (λ (g : Given). g.time) gs
+NeverFalls-by [] h i j d le lt = absurd (omega (arith, lt))
+NeverFalls-by (g ∷ gs) h zero zero d le lt = omega arith
+NeverFalls-by (g ∷ gs) h zero (suc j) d le lt = All-at (λ (later : Given). g.time ≤ later.time) gs h.0 j d (omega (arith, lt))
+NeverFalls-by (g ∷ gs) h (suc i) zero d le lt = absurd (omega (arith, le))
+NeverFalls-by (g ∷ gs) h (suc i) (suc j) d le lt = NeverFalls-by gs h.1 i j d (omega (arith, le)) (omega (arith, lt))
+
+-- the records from the point on where they are not before a time any more
+pub not_before-point : (from k : ℕ) (gs : List Given) → IsPartitionPoint (λ (g : Given). nat_lt g.time from ≡ true) (λ (g : Given). nat_lt g.time from ≡ false) gs k → drop k gs ≡ not_before from gs
+not_before-point from zero [] h = refl
+not_before-point from (suc k) [] h = refl
+not_before-point from zero (g ∷ gs) h =
+    let late = ltb-false g.time from (h.1 0 g (omega arith) (omega arith)) in
+    ap (λ l. g ∷ l) (not_before-point from 0 gs (λ i d low high. absurd (omega (arith, low, high)), λ i d low high. h.1 (suc i) d (omega arith) (omega (arith, high))))
+    ∙ ap (λ b. cond b (g ∷ not_before from gs) (not_before from gs)) (sym (le-leb from g.time late))
+not_before-point from (suc k) (g ∷ gs) h =
+    let early = ltb-true g.time from (h.0 0 g (omega arith) (omega arith)) in
+    not_before-point from k gs (λ i d low high. h.0 (suc i) d (omega arith) (omega (arith, high)), λ i d low high. h.1 (suc i) d (omega (arith, low)) (omega (arith, high)))
+    ∙ ap (λ b. cond b (g ∷ not_before from gs) (not_before from gs)) (sym (lt-leb from g.time early))
+
+-- the rows of the records that are not before a time
+pub rows-not_before : (from : ℕ) (gs : List Given) → flat_map row_text (not_before from gs) ≡ rows_from from gs
+rows-not_before from gs = flat_map-filter row_text (λ (g : Given). nat_le from g.time) gs

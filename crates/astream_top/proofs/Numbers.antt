@@ -1,17 +1,18 @@
 -- What the numbers of queries do: at most one has each number.
-use Rattle.std.proofs.Common.{◌≡◌, ◌≢◌, ℕ, ◌+◌, ◌≤◌, ◌<◌, eqb, Bool, true, false, cond, zero, suc, List, [], ◌∷◌, ◌++◌, map, length, get_or, drop, refl, sym, ap, ap₂, subst, ◌∙◌, append-nil, add-one, add-zero, arith}
+use Rattle.std.proofs.Common.{◌≡◌, ◌≢◌, ℕ, ◌+◌, ◌≤◌, ◌<◌, eqb, Bool, true, false, cond, zero, suc, List, [], ◌∷◌, ◌++◌, map, length, get_or, drop, take, refl, sym, ap, ap₂, subst, ◌∙◌, append-nil, add-one, add-zero, arith}
 use Rattle.std.specs.List.{flat_map, AllByRecursion, range_with_len}
 use Rattle.std.specs.List.Sorted.{IsStrictlyIncreasing}
 use Rattle.std.proofs.lemmas.Bool.{ne_eqb, eqb-true, eq-eqb}
 use Rattle.std.proofs.lemmas.Grind.{flat_map-append}
-use Rattle.std.proofs.lemmas.List.{map-append, length_push}
+use Rattle.std.proofs.lemmas.List.{map-append, length_push, take_more}
 use Rattle.std.proofs.lemmas.List.Sums.{sum_by-cons}
 use Rattle.as_base.specs.declared.answer.Piece.{Piece}
+use Rattle.as_base.specs.declared.item.Given.{Given}
 use Rattle.as_outside.specs.Outputs.{times}
 use Rattle.astream_top.specs.declared.session.Live.{Live}
-use Rattle.astream_top.specs.Kept.{piece_of}
-use Rattle.astream_top.specs.Outcome.{bytes_for, ArePieces}
-use Rattle.astream_top.proofs.Each.{All-by, All-append, cond_same}
+use Rattle.astream_top.specs.Kept.{rows_from, piece_of, pieces_of}
+use Rattle.astream_top.specs.Outcome.{bytes_for}
+use Rattle.astream_top.proofs.Each.{All-by, All-push, All-append, cond_same}
 
 -- the queries are numbered one after another
 abbrev pub IsNumbered : ℕ → List Live → Type 0
@@ -80,52 +81,16 @@ pieces-known f (q ∷ qs) =
     later : (p : Piece) → 0 < times p.n (map (λ (q : Live). q.n) qs) → 0 < times p.n (map (λ (q : Live). q.n) (q ∷ qs))
     later p h = let e = sum_by-cons (λ m. cond (eqb m p.n) 1 0) q.n (map (λ (q : Live). q.n) qs) in omega (arith, e, h)
 
+increasing-rest : (x : ℕ) (xs : List ℕ) → IsStrictlyIncreasing (x ∷ xs) → IsStrictlyIncreasing xs
+increasing-rest x xs h k within =
+    let e : suc k + 1 ≡ suc (k + 1) = omega arith in
+    subst (λ n. get_or xs k 0 < get_or (x ∷ xs) n 0) e (h (suc k) (omega (arith, within)))
+
 increasing-cons : (x : ℕ) (xs : List ℕ) → (0 < length xs → x < get_or xs 0 0) → IsStrictlyIncreasing xs → IsStrictlyIncreasing (x ∷ xs)
 increasing-cons x xs first h zero within = first (omega (arith, within))
 increasing-cons x xs first h (suc k) within =
     let e : suc k + 1 ≡ suc (k + 1) = omega arith in
     subst (λ n. get_or xs k 0 < get_or (x ∷ xs) n 0) (sym e) (h k (omega (arith, within)))
-
-pieces-least : (f : Live → List ℕ) (k : ℕ) (qs : List Live) → IsNumbered k qs → AllByRecursion (λ (p : Piece). k ≤ p.n) (flat_map (λ (q : Live). piece_of q.n (f q)) qs)
-pieces-least f k [] e = tt
-pieces-least f k (q ∷ qs) e =
-    All-append (λ (p : Piece). k ≤ p.n) (piece_of q.n (f q)) (flat_map (λ (q : Live). piece_of q.n (f q)) qs) (one (f q))
-    (All-by (λ (p : Piece). k + 1 ≤ p.n) (λ (p : Piece). k ≤ p.n) (λ p h. omega (arith, h)) (flat_map (λ (q : Live). piece_of q.n (f q)) qs) (pieces-least f (k + 1) qs (rest-numbered k q qs e)))
-  where
-    one : (bytes : List ℕ) → AllByRecursion (λ (p : Piece). k ≤ p.n) (piece_of q.n bytes)
-    one [] = tt
-    one (b ∷ bytes) = let is = first-number k q qs e in (omega (arith, is), tt)
-
-first-least : (k : ℕ) (pieces : List Piece) → AllByRecursion (λ (p : Piece). k ≤ p.n) pieces → 0 < length (map (λ (p : Piece). p.n) pieces) → k ≤ get_or (map (λ (p : Piece). p.n) pieces) 0 0
-first-least k [] h some = absurd (omega (arith, some))
-first-least k (p ∷ pieces) h some = h.0
-
-pieces-rise : (f : Live → List ℕ) (k : ℕ) (qs : List Live) → IsNumbered k qs → IsStrictlyIncreasing (map (λ (p : Piece). p.n) (flat_map (λ (q : Live). piece_of q.n (f q)) qs))
-pieces-rise f k [] e = λ i within. absurd (omega (arith, within))
-pieces-rise f k (q ∷ qs) e = go (f q) (pieces-rise f (k + 1) qs (rest-numbered k q qs e))
-  where
-    rest : List Piece
-    rest = flat_map (λ (q : Live). piece_of q.n (f q)) qs
-
-    go : (bytes : List ℕ) → IsStrictlyIncreasing (map (λ (p : Piece). p.n) (flat_map (λ (q : Live). piece_of q.n (f q)) qs))
-        → IsStrictlyIncreasing (map (λ (p : Piece). p.n) (piece_of q.n bytes ++ flat_map (λ (q : Live). piece_of q.n (f q)) qs))
-    go [] up = up
-    go (b ∷ bytes) up =
-        let is = first-number k q qs e in
-        let least = first-least (k + 1) (flat_map (λ (q : Live). piece_of q.n (f q)) qs) (pieces-least f (k + 1) qs (rest-numbered k q qs e)) in
-        increasing-cons q.n (map (λ (p : Piece). p.n) (flat_map (λ (q : Live). piece_of q.n (f q)) qs)) (λ some. omega (arith, is, least some)) up
-
-pieces-full : (f : Live → List ℕ) (qs : List Live) → AllByRecursion (λ (p : Piece). p.bytes ≢ []) (flat_map (λ (q : Live). piece_of q.n (f q)) qs)
-pieces-full f [] = tt
-pieces-full f (q ∷ qs) = All-append (λ (p : Piece). p.bytes ≢ []) (piece_of q.n (f q)) (flat_map (λ (q : Live). piece_of q.n (f q)) qs) (one (f q)) (pieces-full f qs)
-  where
-    one : (bytes : List ℕ) → AllByRecursion (λ (p : Piece). p.bytes ≢ []) (piece_of q.n bytes)
-    one [] = tt
-    one (b ∷ bytes) = (λ same. cc, tt)
-
--- the pieces of numbered queries stand by number, and none is empty
-pub ArePieces-by : (f : Live → List ℕ) (k : ℕ) (qs : List Live) → IsNumbered k qs → ArePieces (flat_map (λ (q : Live). piece_of q.n (f q)) qs)
-ArePieces-by f k qs e = record { rising = pieces-rise f k qs e; full = pieces-full f qs }
 
 range-push : (k n : ℕ) → range_with_len k (n + 1) ≡ range_with_len k n ++ (k + n) ∷ []
 range-push k n = ap (range_with_len k) (add-one n) ∙ go k n
@@ -163,3 +128,57 @@ times-one n m some = go (eqb m n) refl some
     go : (b : Bool) → eqb m n ≡ b → 0 < 0 + cond b 1 0 → m ≡ n
     go true e some = eqb-true m n e
     go false e some = absurd (omega (arith, some))
+
+-- The pieces of queries up to number m stand by number, and none is empty.
+pub record PiecesTo (m : ℕ) (pieces : List Piece) : Type 0 where
+  pub rising : IsStrictlyIncreasing (map (λ (p : Piece). p.n) pieces)
+  pub full : AllByRecursion (λ (p : Piece). p.bytes ≢ []) pieces
+  pub low : AllByRecursion (λ (p : Piece). p.n ≤ m) pieces
+
+increasing-push : (m : ℕ) (pieces : List Piece) (p : Piece) → IsStrictlyIncreasing (map (λ (p : Piece). p.n) pieces) → AllByRecursion (λ (p : Piece). p.n ≤ m) pieces → m < p.n
+    → IsStrictlyIncreasing (map (λ (p : Piece). p.n) (pieces ++ p ∷ []))
+increasing-push m [] p up low above = λ i within. absurd (omega (arith, within))
+increasing-push m (r ∷ pieces) p up low above =
+    increasing-cons r.n (map (λ (p : Piece). p.n) (pieces ++ p ∷ [])) (first pieces low.1 up)
+    (increasing-push m pieces p (increasing-rest r.n (map (λ (p : Piece). p.n) pieces) up) low.1 above)
+  where
+    first : (l : List Piece) → AllByRecursion (λ (p : Piece). p.n ≤ m) l → IsStrictlyIncreasing (map (λ (p : Piece). p.n) (r ∷ l)) → 0 < length (map (λ (p : Piece). p.n) (l ++ p ∷ []))
+        → r.n < get_or (map (λ (p : Piece). p.n) (l ++ p ∷ [])) 0 0
+    first [] h rise some = let a = low.0 in omega (arith, a, above)
+    first (s ∷ l) h rise some = rise 0 (omega arith)
+
+-- the next query has the piece of these bytes, if there are any
+pub PiecesTo-next : (m : ℕ) (pieces : List Piece) (n : ℕ) (bytes : List ℕ) → n ≡ 1 + m → PiecesTo m pieces → PiecesTo (m + 1) (pieces ++ piece_of n bytes)
+PiecesTo-next m pieces n [] is h = subst (PiecesTo (m + 1)) (sym (append-nil pieces)) (record {
+  rising = h.rising;
+  full = h.full;
+  low = All-by (λ (p : Piece). p.n ≤ m) (λ (p : Piece). p.n ≤ m + 1) (λ p k. omega (arith, k)) pieces h.low;
+})
+PiecesTo-next m pieces n (b ∷ bytes) is h = record {
+  rising = increasing-push m pieces (record { n = n; bytes = b ∷ bytes }) h.rising h.low (omega (arith, is));
+  full = All-push (λ (p : Piece). p.bytes ≢ []) pieces (record { n = n; bytes = b ∷ bytes }) h.full (λ same. cc);
+  low = All-push (λ (p : Piece). p.n ≤ m + 1) pieces (record { n = n; bytes = b ∷ bytes })
+      (All-by (λ (p : Piece). p.n ≤ m) (λ (p : Piece). p.n ≤ m + 1) (λ p k. omega (arith, k)) pieces h.low) (omega (arith, is));
+}
+
+-- the number of a query by its place
+pub number-at : (k : ℕ) (qs : List Live) → IsNumbered k qs → (i : ℕ) (d : Live) → i < length qs → (get_or qs i d).n ≡ k + i
+number-at k [] e i d within = absurd (omega (arith, within))
+number-at k (q ∷ qs) e zero d within = let is = first-number k q qs e in omega (arith, is)
+number-at k (q ∷ qs) e (suc i) d within = let is = number-at (k + 1) qs (rest-numbered k q qs e) i d (omega (arith, within)) in omega (arith, is)
+
+-- no query has a piece where no record is
+pub pieces-none : (qs : List Live) (gs : List Given) → eqb (length gs) 0 ≡ true → pieces_of qs gs ≡ []
+pieces-none [] gs none = refl
+pieces-none (q ∷ qs) [] none = pieces-none qs [] none
+pieces-none (q ∷ qs) (g ∷ gs) none = let many = eqb-true (length (g ∷ gs)) 0 none in absurd (omega (arith, many))
+
+-- one more query has its piece after those of the queries before it
+pub pieces-more : (qs : List Live) (gs : List Given) (i : ℕ) (d : Live) (pieces new : List Piece) (rows : List ℕ) → i < length qs
+    → new ≡ pieces ++ piece_of (get_or qs i d).n rows → pieces ≡ pieces_of (take i qs) gs → rows ≡ rows_from (get_or qs i d).from gs → new ≡ pieces_of (take (i + 1) qs) gs
+pieces-more qs gs i d pieces new rows within pushed before is =
+    pushed
+    ∙ ap₂ (λ l m. l ++ piece_of (get_or qs i d).n m) before is
+    ∙ ap (λ l. pieces_of (take i qs) gs ++ l) (sym (append-nil (piece_of (get_or qs i d).n (rows_from (get_or qs i d).from gs))))
+    ∙ sym (flat_map-append (λ (q : Live). piece_of q.n (rows_from q.from gs)) (take i qs) (get_or qs i d ∷ []))
+    ∙ ap (λ l. pieces_of l gs) (sym (take_more qs i d within))

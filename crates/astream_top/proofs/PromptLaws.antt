@@ -8,19 +8,19 @@ use Rattle.as_outside.specs.Log.{pulled, pulled_by, said, begins, puts, failures
 use Rattle.as_outside.proofs.Log.{pulled-append, said-append, begins-append, puts-append, failures-append, say_failures-append, held-append, EndsAtFailure-from_none}
 use Rattle.as_lineform.specs.Lines.{lines}
 use Rattle.astream_top.specs.Setup.{Setup}
-use Rattle.astream_top.specs.Stop.{IsQuiet}
+use Rattle.astream_top.specs.Stop.{HasNoPull}
 use Rattle.astream_top.specs.Prompt.{IsDue, PromptFrom, Prompt}
 
 PromptFrom-append : (c : Setup) (before a b : List Entry) → PromptFrom c before a → PromptFrom c (before ++ a) b → PromptFrom c before (a ++ b)
 PromptFrom-append c before [] b ha hb = rw append-nil at hb
 PromptFrom-append c before (e ∷ a) b ha hb = (ha.0, PromptFrom-append c (before ++ e ∷ []) a b ha.1 (rw append_assoc hb))
 
-PromptFrom-quiet : (c : Setup) (before a : List Entry) → IsQuiet a → PromptFrom c before a
+PromptFrom-quiet : (c : Setup) (before a : List Entry) → HasNoPull a → PromptFrom c before a
 PromptFrom-quiet c before [] quiet = tt
 PromptFrom-quiet c before (e ∷ a) quiet = (λ pulls. absurd (false≢true (sym quiet.0 ∙ pulls)), PromptFrom-quiet c (before ++ e ∷ []) a quiet.1)
 
 -- calls that are no pulls keep a log prompt
-pub prompt-quiet : (c : Setup) (a b : List Entry) → Prompt c a → IsQuiet b → Prompt c (a ++ b)
+pub prompt-quiet : (c : Setup) (a b : List Entry) → Prompt c a → HasNoPull b → Prompt c (a ++ b)
 prompt-quiet c a b prompt quiet = PromptFrom-append c [] a b prompt (PromptFrom-quiet c a b quiet)
 
 -- a pull keeps a log prompt where all that is due for the lines before it is out
@@ -39,12 +39,12 @@ none_pulled (BeginFailed n) quiet = refl
 none_pulled (Put n bytes) quiet = refl
 none_pulled (PutFailed n bytes) quiet = refl
 
-pulled-quiet : (a : List Entry) → IsQuiet a → pulled a ≡ []
+pulled-quiet : (a : List Entry) → HasNoPull a → pulled a ≡ []
 pulled-quiet [] quiet = refl
 pulled-quiet (e ∷ a) quiet = ap (λ bytes. bytes ++ pulled a) (none_pulled e quiet.0) ∙ pulled-quiet a quiet.1
 
 -- calls that are no pulls leave the bytes pulled
-pub pulled-append_quiet : (a b : List Entry) → IsQuiet b → pulled (a ++ b) ≡ pulled a
+pub pulled-append_quiet : (a b : List Entry) → HasNoPull b → pulled (a ++ b) ≡ pulled a
 pulled-append_quiet a b quiet = pulled-append a b ∙ ap (λ bytes. pulled a ++ bytes) (pulled-quiet b quiet) ∙ append-nil (pulled a)
 
 -- a call that says, begins and puts nothing, and fails on no output

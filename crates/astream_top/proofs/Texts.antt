@@ -15,7 +15,7 @@ use Rattle.astream_top.specs.Acceptance.{watermark}
 use Rattle.astream_top.specs.View.{records, view, is_mine, comes_before, put_in_order, in_order, row_text, text, text_of}
 use Rattle.astream_top.specs.Kept.{rows_from, below}
 use Rattle.astream_top.specs.Session.{query_of, InOrder, accepted}
-use Rattle.astream_top.proofs.Each.{All-by, All-push, All-filter, All-every, flat_map-map, flat_map-same}
+use Rattle.astream_top.proofs.Each.{All-by, All-push, All-filter, All-every, flat_map-map, flat_map-same, flat_map-filter}
 use Rattle.astream_top.proofs.Numbers.{of_number}
 use Rattle.as_outside.specs.Outputs.{times}
 use Rattle.astream_top.specs.Setup.{Setup}
@@ -47,14 +47,6 @@ in_order-same (r ∷ rs) h = ap (put_in_order r) (in_order-same rs h.1) ∙ firs
     first : (l : List Record) → AllByRecursion (λ s. comes_before r s ≡ true) l → put_in_order r l ≡ r ∷ l
     first [] a = refl
     first (s ∷ l) a = ap (λ b. cond b (s ∷ put_in_order r l) (r ∷ s ∷ l)) (comes_before-apart r s a.0)
-
-flat_map-filter : {X Y : Type 0} (f : X → List Y) (p : X → Bool) (xs : List X) → flat_map f (filter p xs) ≡ flat_map (λ x. cond (p x) (f x) []) xs
-flat_map-filter f p [] = refl
-flat_map-filter f p (x ∷ xs) = go (p x) (flat_map-filter f p xs)
-  where
-    go : (b : Bool) → flat_map f (filter p xs) ≡ flat_map (λ x. cond (p x) (f x) []) xs → flat_map f (cond b (x ∷ filter p xs) (filter p xs)) ≡ cond b (f x) [] ++ flat_map (λ x. cond (p x) (f x) []) xs
-    go true e = ap (λ l. f x ++ l) e
-    go false e = e
 
 cond_swap : {X : Type 0} (a b : Bool) (x y : X) → cond a (cond b x y) y ≡ cond b (cond a x y) y
 cond_swap true true x y = refl

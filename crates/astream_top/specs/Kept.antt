@@ -14,6 +14,10 @@ rows_from from records = flat_map (λ (g : Given). if nat_le from g.time then ro
 abbrev pub below : ℕ → List Given → List Given
 below mark records = filter (λ (g : Given). nat_lt g.time mark) records
 
+-- the records at a time or after it
+abbrev pub not_before : ℕ → List Given → List Given
+not_before from records = filter (λ (g : Given). nat_le from g.time) records
+
 -- the records stand by time
 abbrev pub NeverFalls : List Given → Type 0
 NeverFalls [] = Unit {0}

@@ -9,8 +9,9 @@ use Rattle.astream_top.specs.declared.stop.Stop.{Stop}
 use Rattle.astream_top.specs.declared.stop.Stop.TheVariants as stop
 use Rattle.astream_top.specs.Setup.{run_setup}
 use Rattle.astream_top.specs.Prompt.{Prompt}
-use Rattle.astream_top.specs.Stop.{IsStoppedBy}
+use Rattle.astream_top.specs.Stop.{IsStoppedBy, IsFaultless}
 use Rattle.astream_top.specs.Report.{IsDone, IsTooLong, IsCutOff}
+use Rattle.astream_top.specs.Ended.{IsCutShort}
 use Rattle.astream_top.specs.Processor.{HasProcessed}
 
 -- The bytes were taken: the cutter has read them, and their whole lines were processed.
@@ -21,6 +22,7 @@ pub record HasTaken (r : Run) (bytes : List ℕ) (calls : List Entry) : Type 0 w
 -- All bytes pulled were taken, and what is due was always out in time.
 pub record IsAt (r : Run) (calls : List Entry) : Type 0 where
   pub prompt : Prompt run_setup calls
+  pub faultless : IsFaultless calls
   pub taken : HasTaken r (pulled calls) calls
 
 -- What the calls of a run are that ended with this result, after this many lines, under the limit on its bytes.
@@ -28,6 +30,6 @@ abbrev pub IsRun : ℕ → ℕ → Result (Unit {0}) Stop → List Entry → Typ
 IsRun limit count (Ok x) calls = IsDone run_setup limit count calls
 IsRun limit count (Err stop.TooLong) calls = IsTooLong run_setup limit count calls
 IsRun limit count (Err stop.ReadFault) calls = IsCutOff run_setup limit count calls
-IsRun limit count (Err stop.NoMemory) calls = Prompt run_setup calls
+IsRun limit count (Err stop.NoMemory) calls = IsCutShort run_setup calls
 IsRun limit count (Err stop.AnswerFault) calls = Prompt run_setup calls × IsStoppedBy stop.AnswerFault calls
 IsRun limit count (Err (stop.OutputBroken n)) calls = Prompt run_setup calls × IsStoppedBy (stop.OutputBroken n) calls

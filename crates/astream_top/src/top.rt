@@ -2,9 +2,8 @@ ghost use Rattle.std.specs.Prelude.{◌≡◌, ◌<◌, ◌^◌, ◌↔◌, ℕ,
 ghost use Rattle.as_outside.specs.Shelf.{Since, Rose};
 ghost use Rattle.astream_top.specs.Setup.{run_setup};
 ghost use Rattle.astream_top.specs.Words.{are_run};
-ghost use Rattle.astream_top.specs.Prompt.{Prompt};
 ghost use Rattle.astream_top.specs.Report.{IsDone, IsTooLong, IsCutOff};
-ghost use Rattle.astream_top.specs.Ended.{IsUnsaid, IsBroken};
+ghost use Rattle.astream_top.specs.Ended.{IsUnsaid, IsBroken, IsCutShort};
 
 use crate::run::{pull_all, start};
 use crate::stop::Stop;
@@ -34,7 +33,7 @@ fn run_within<D: Desk>(alloc: Global, desk: &mut D, limit: u64) -> Report
     ensures read_fault { result.status ≡ Status.ReadFault → Since (D.log desk.old) (D.log desk.new) (IsCutOff run_setup limit result.lines) }
     ensures answer_fault { result.status ≡ Status.AnswerFault → Since (D.log desk.old) (D.log desk.new) (IsUnsaid run_setup) }
     ensures output_broken { result.status ≡ Status.OutputBroken → Since (D.log desk.old) (D.log desk.new) (IsBroken run_setup result.broken) }
-    ensures no_memory { result.status ≡ Status.NoMemory → Since (D.log desk.old) (D.log desk.new) (Prompt run_setup) }
+    ensures no_memory { result.status ≡ Status.NoMemory → Since (D.log desk.old) (D.log desk.new) (IsCutShort run_setup) }
     ensures no_usage { result.status ≡ Status.Usage → ⊥ }
     ensures no_journal { result.status ≡ Status.JournalFault → ⊥ }
 
@@ -110,7 +109,7 @@ pub fn astream<R: Threads + Sync, D: Desk, G: Gate>(
     ensures no_journal { result.status ≡ Status.JournalFault → ⊥ }
 
     // Want of memory is the one free answer.
-    ensures no_memory { result.status ≡ Status.NoMemory → Since (D.log desk.old) (D.log desk.new) (Prompt run_setup) }
+    ensures no_memory { result.status ≡ Status.NoMemory → Since (D.log desk.old) (D.log desk.new) (IsCutShort run_setup) }
 {
     if !are_run(words) {
         return report(Status::Usage, 0, Vec::new(alloc));

@@ -1,4 +1,4 @@
-use Rattle.std.proofs.Common.{[], ◌∷◌, ◌++◌, ◌+◌, ◌≤◌, ◌≡◌, ◌∙◌, ap, take, arith, length, sym}
+use Rattle.std.proofs.Common.{[], ◌∷◌, ◌++◌, ◌+◌, ◌≤◌, ◌≡◌, ◌∙◌, ap, refl, take, arith, length, sym}
 use Rattle.std.proofs.lemmas.List.{length-take-le, take-take}
 use Rattle.std.proofs.lemmas.Result.{err_from_is_err_and}
 use Rattle.as_outside.specs.declared.entry.Entry.TheVariants.{Pulled, PullFailed}
@@ -18,7 +18,7 @@ returns-in_err-take_bytes-clause-calls g c = λ calls at.
       Pulled x ∷ taken.0,
       tells_after _ _ _ _ _ c.in-Ok.ensures.ok taken.1,
       rw (p.1, p.2) (stopped _ _ _ (calls ++ Pulled x ∷ taken.0) (prompt_all c.args.run.now calls taken.0 x at taken.2.0)
-          (IsStoppedBy-after _ calls (Pulled x ∷ taken.0) (IsStoppedBy-after c.in_err-take_bytes.field-0.0 (Pulled x ∷ []) taken.0 taken.2.1))),
+          (IsStoppedBy-after _ calls (Pulled x ∷ taken.0) at.faultless (IsStoppedBy-after c.in_err-take_bytes.field-0.0 (Pulled x ∷ []) taken.0 (refl, tt) taken.2.1))),
     )
 
 pub returns-then-within-pulled-clause-calls : goal.returns-then-within-pulled-clause-calls

@@ -6,7 +6,7 @@ use Rattle.astream_top.proofs.run.take_byte.Goals as goal
 pub returns-in-More-clause-calls : goal.returns-in-More-clause-calls
 returns-in-More-clause-calls g c = λ bytes calls before.
     let step = rw c.in-More.is at (c.in_ok-item.ensures.reads bytes before.reads) in
-    ([], tells_none _, (tt, record { reads = step.0; processed = rw (step.1, append-nil, append-nil) before.processed }))
+    ([], tells_none _, (record { unpulled = tt; faultless = tt }, record { reads = step.0; processed = rw (step.1, append-nil, append-nil) before.processed }))
 
 pub returns-in-Line-clause-calls : goal.returns-in-Line-clause-calls
 returns-in-Line-clause-calls g c = λ bytes calls before.

@@ -2,10 +2,10 @@ use Rattle.std.proofs.Common.{◌+◌, [], ◌∷◌, ◌++◌, None, sym, ap₂
 use Rattle.as_base.specs.declared.item.StreamId.TheVariants.{A}
 use Rattle.as_base.specs.declared.item.Item.TheVariants.{Mark}
 use Rattle.astream_top.specs.Setup.{run_setup}
-use Rattle.astream_top.specs.Kept.{rows_from, pieces_of}
-use Rattle.astream_top.specs.Outcome.{IsFed, ArePieces}
+use Rattle.astream_top.specs.Kept.{pieces_of, NeverFalls}
+use Rattle.astream_top.specs.Outcome.{IsFed}
 use Rattle.astream_top.specs.Session.{Stands}
-use Rattle.astream_top.proofs.Numbers.{ArePieces-by}
+use Rattle.astream_top.proofs.Marks.{NeverFalls-first}
 use Rattle.astream_top.proofs.Steps.{back-step, mark-step}
 use Rattle.astream_top.proofs.session.Session.take_mark.Goals as goal
 
@@ -18,13 +18,9 @@ pub returns-clause-stands : goal.returns-clause-stands
 returns-clause-stands c = λ h s.
     let t = c.args.time in
     let old = c.args.self.now in
-    let pieces = c.in_ok-pieces.ensures ∙ ap₂ pieces_of c.deref.ensures.value c.deref-2.ensures.value in
+    let passed = NeverFalls-first c.in_ok-passed.passed.items c.take_passed.new.pending.items (subst NeverFalls (c.in_ok-passed.ensures).whole s.rising) in
+    let pieces = c.in_ok-pieces.ensures.rows (subst NeverFalls (sym c.deref-2.ensures.value) passed) ∙ ap₂ pieces_of c.deref.ensures.value c.deref-2.ensures.value in
     let p = mark-step h t _ _ _ _ _ _ c.in_ok-passed.passed.items _ s old.numbered c.requires.range c.if-time-self.false c.in_ok-passed.ensures in (
       subst₂ (λ top late. Stands (h ++ Mark A t ∷ []) (old.items + 1) top t late old.queries.items c.take_passed.new.pending.items) (sym c.max-self.ensures) (sym c.max-self-2.ensures) p.0,
       subst (λ l. IsFed run_setup h (Mark A t) (record { answer = None; pieces = l })) (sym pieces) p.1,
     )
-
-pub returns-clause-order : goal.returns-clause-order
-returns-clause-order c =
-    let pieces = c.in_ok-pieces.ensures ∙ ap₂ pieces_of c.deref.ensures.value c.deref-2.ensures.value in
-    subst ArePieces (sym pieces) (ArePieces-by (λ q. rows_from q.from c.in_ok-passed.passed.items) 1 c.args.self.now.queries.items c.args.self.now.numbered)
