@@ -56,6 +56,26 @@ module _ {X : Type 0} where
   abbrev SeatedAt : (ℕ → List (ℕ × X)) → ℕ → List (Option (List (ℕ × X))) → ℕ → ℕ → Type 0
   SeatedAt lists j u r place = part u r ≡ cond (eqb j place) (Some (lists r)) None
 
+  pub begins : Kept [] (everything {X = X} ∷ [])
+  begins = ((λ _. 0), (λ _. []), ((λ r h. omega arith), at, long), ((λ feeder a b. refl), tt))
+    where
+      all : (r : ℕ) → r < 6 → part (everything {X = X}) r ≡ Some []
+      all zero h = refl
+      all (suc zero) h = refl
+      all (suc (suc zero)) h = refl
+      all (suc (suc (suc zero))) h = refl
+      all (suc (suc (suc (suc zero)))) h = refl
+      all (suc (suc (suc (suc (suc zero))))) h = refl
+      all (suc (suc (suc (suc (suc (suc r)))))) h = absurd (omega arith)
+
+      at : (j : ℕ) (u : List (Option (List (ℕ × X)))) → get_elem? (everything {X = X} ∷ []) j ≡ some u → (r : ℕ) → r < 6 → part u r ≡ cond (eqb j 0) (Some []) None
+      at zero u e r h = ap (λ x. part x r) (sym (some-injective (everything {X = X}) u e)) ∙ all r h
+      at (suc j) u e r h = absurd (some-ne-none u (sym e))
+
+      long : (j : ℕ) (u : List (Option (List (ℕ × X)))) → get_elem? (everything {X = X} ∷ []) j ≡ some u → length u ≡ 6
+      long zero u e = ap length (sym (some-injective (everything {X = X}) u e))
+      long (suc j) u e = absurd (some-ne-none u (sym e))
+
   pub forks : (role pass : ℕ) (v : List (Option (List (ℕ × X)))) → role < 6 → HoldsRole v role → Forks Kept pass v (without v role) (only role (part v role))
   forks role pass v small holds items views kept at =
       let seat = kept.0 in let lists = kept.1 in let seated = kept.2 in

@@ -1,5 +1,5 @@
 -- What contracts see of an inbox, of its passes, and of one that was closed.
-use Rattle.std.specs.Prelude.{◌≡◌, ℕ, List}
+use Rattle.std.specs.Prelude.{◌≡◌, ℕ, List, [], ◌∷◌}
 use Rattle.atomic_table.specs.Seated.{TableId}
 use Rattle.crossbeam_queue.specs.Fifo.{Held}
 use Rattle.crossbeam_queue.specs.Passes.{view, ruled_capacity}
@@ -9,6 +9,10 @@ use Rattle.inbox.specs.declared.passes.FeedPass.{FeedPass}
 use Rattle.inbox.specs.declared.passes.TakePass.{TakePass}
 use Rattle.inbox.specs.declared.passes.Closed.{Closed}
 use Rattle.inbox.specs.Roles.{loads, list_of, Moment}
+
+-- the same, once for each feeder
+abbrev pub five_times : {A : Type 0} → A → List A
+five_times x = x ∷ x ∷ x ∷ x ∷ x ∷ []
 
 -- which inbox it is
 abbrev pub id_of : Inbox → TableId

@@ -10,3 +10,6 @@ mod seats;
 
 pub use load::{Ending, Full, Load};
 pub use passes::{Closed, FeedPass, Inbox, TakePass};
+
+#[cfg(test)]
+mod tests;
