@@ -1,11 +1,11 @@
 -- Joined passes hold each role once, and what they have done adds up.
-use Rattle.std.proofs.Common.{◌≡◌, ◌≢◌, ◌⊎◌, ℕ, zero, suc, ◌<◌, ◌≤◌, ◌+◌, Bool, true, false, true≢false, cond, eqb, ◌&&◌, ◌||◌, List, [], ◌∷◌, ◌++◌, length, take, map, Option, Some, None, refl, sym, ap, ◌∙◌, subst, ⊎_elim, inl, inr, arith, length-append}
+use Rattle.std.proofs.Common.{◌≡◌, ℕ, zero, suc, ◌<◌, ◌≤◌, ◌+◌, Bool, true, false, true≢false, cond, eqb, ◌&&◌, List, [], ◌∷◌, ◌++◌, length, take, map, Option, Some, None, refl, sym, ap, ◌∙◌, subst, ⊎_elim, arith, length-append}
 use Rattle.std.specs.Prelude.{is_some}
 use Rattle.std.proofs.lemmas.Bool.{cond-true, cond-false, cases_Bool, or_parts}
-use Rattle.std.proofs.lemmas.List.{length-map, length-set}
+use Rattle.std.proofs.lemmas.List.{length-map}
 use Rattle.std.proofs.Math.Seq.{take-append_seam}
 use Rattle.crossbeam_queue.specs.Fifo.{Held}
-use Rattle.inbox.specs.Roles.{loads, from, AllFed, listed, part, list_of, HoldsRole, nothing, only, IsOnly, roles_in, clash, either_of, united, both_of, KeepsRoles, Moment, IsTally}
+use Rattle.inbox.specs.Roles.{loads, from, AllFed, listed, part, list_of, HoldsRole, only, IsOnly, roles_in, clash, either_of, united, both_of, KeepsRoles, Moment, IsTally}
 use Rattle.inbox.proofs.Moves.{seat_of}
 use Rattle.inbox.proofs.Passing.{part_united}
 
@@ -96,13 +96,12 @@ module _ {X : Type 0} where
       let long : length v ≡ 6 = kept.2.2 moment.0 v moment.3 in
       let mine : (r : ℕ) → r < 6 → lists r ≡ list_of v r = λ r h. (seat_of kept.0 lists moment.1 moment.0 v r h kept.2 moment.3 (holds_each v r (full ∙ sym long) (omega (arith, h, long)))).1 in
       let done : (feeder : ℕ) → 0 < feeder → feeder < 6 → loads (list_of v feeder) ≡ from feeder (list_of v 0 ++ items) =
-          λ feeder low high. ap loads (sym (mine feeder high)) ∙ whole.0 feeder low high ∙ ap (λ l. from feeder (l ++ items)) (mine 0 (omega arith)) in
+      λ feeder low high. ap loads (sym (mine feeder high)) ∙ whole.0 feeder low high ∙ ap (λ l. from feeder (l ++ items)) (mine 0 (omega arith)) in
       let size : (feeder : ℕ) → 0 < feeder → feeder < 6 → length (list_of v feeder) ≡ length (from feeder (list_of v 0 ++ items)) =
-          λ feeder low high. sym (length-map (list_of v feeder) (λ p. p.1)) ∙ ap length (done feeder low high) in
+      λ feeder low high. sym (length-map (list_of v feeder) (λ p. p.1)) ∙ ap length (done feeder low high) in
       let all = all_sizes (list_of v 0 ++ items) (subst (λ l. AllFed (l ++ items)) (mine 0 (omega arith)) whole.1) ∙ length-append (list_of v 0) items in
       let first = size 1 (omega arith) (omega arith) in let second = size 2 (omega arith) (omega arith) in let third = size 3 (omega arith) (omega arith) in
-      let fourth = size 4 (omega arith) (omega arith) in let fifth = size 5 (omega arith) (omega arith) in let rest = held.1 in
-      (
+      let fourth = size 4 (omega arith) (omega arith) in let fifth = size 5 (omega arith) (omega arith) in let rest = held.1 in (
         (λ feeder low high. sym (ap (take (length (from feeder (list_of v 0)))) (done feeder low high ∙ from-joined feeder (list_of v 0) items) ∙ take-append_seam (from feeder (list_of v 0)) (from feeder items))),
         omega (arith, all, first, second, third, fourth, fifth, rest),
       )

@@ -1,14 +1,14 @@
 -- Each step at an inbox keeps its rule.
-use Rattle.std.proofs.Common.{◌≡◌, ◌≢◌, ◌⊎◌, ℕ, zero, suc, ◌<◌, ◌+◌, Bool, true, false, cond, eqb, List, [], ◌∷◌, ◌++◌, map, length, set, get_or, Option, Some, None, refl, sym, ap, ◌∙◌, subst, ⊎_elim, inl, inr, arith, append_assoc}
-use Rattle.std.proofs.lemmas.Bool.{cond-true, cond-false, cases_Bool, eqb-true, eq-eqb, ne_eqb}
+use Rattle.std.proofs.Common.{◌≡◌, ◌≢◌, ℕ, zero, suc, ◌<◌, Bool, true, false, cond, eqb, List, [], ◌∷◌, ◌++◌, length, set, Option, Some, None, refl, sym, ap, ◌∙◌, subst, ⊎_elim, arith, append_assoc}
+use Rattle.std.proofs.lemmas.Bool.{cond-true, cond-false, eqb-true, eq-eqb, ne_eqb}
 use Rattle.std.proofs.lemmas.Bool.Decides.{eqb_tells}
 use Rattle.std.proofs.lemmas.List.{length-set, get_or-set_same, get_or-set_other, map-append}
 use Rattle.std.proofs.lemmas.Option.{cond_some}
-use mathlib.Core.Option.{some, some-ne-none, some-injective}
+use mathlib.Core.Option.{some}
 use lib.ListN.{get_elem?}
-use Rattle.crossbeam_queue.specs.Fifo.{Pushes, Pops, Forks, Merges, Learns}
-use Rattle.crossbeam_queue.proofs.Lists.{at_set, at_snoc}
-use Rattle.inbox.specs.Roles.{loads, from, AllFed, listed, part, list_of, HoldsRole, everything, nothing, only, without, IsOnly, added, clash, either_of, united, both_of, Seated, Whole, Kept, Moment}
+use Rattle.crossbeam_queue.specs.Fifo.{Pushes, Pops, Learns}
+use Rattle.crossbeam_queue.proofs.Lists.{at_set}
+use Rattle.inbox.specs.Roles.{loads, from, AllFed, listed, part, list_of, HoldsRole, nothing, only, IsOnly, added, Seated, Kept, Moment}
 
 module _ {X : Type 0} where
   -- what a pass that holds a role knows of it
@@ -40,24 +40,23 @@ module _ {X : Type 0} where
       → role < 6 → Seated seat lists views → get_elem? views pass ≡ some v → HoldsRole v role → Seated seat (grown lists role x) (set views pass (added v role x))
   seated_added seat lists views pass v role x small seated at holds =
       let mine = seat_of seat lists views pass v role small seated at holds in
-      let long : length v ≡ 6 = seated.2 pass v at in
-      (
+      let long : length v ≡ 6 = seated.2 pass v at in (
         (λ r h. subst (λ n. seat r < n) (sym (length-set views pass (added v role x))) (seated.0 r h)),
         (λ j u e r h. ⊎_elim
             (λ (here : (j ≡ pass) × (added v role x ≡ u)). ap (λ w. part w r) (sym here.1) ∙ part_set v role r (Some (list_of v role ++ x ∷ [])) (omega arith) ∙ ⊎_elim
-                (λ (is : (eqb r role ≡ true) × (r ≡ role)).
-                    cond-true _ _ _ is.0 ∙ ap (λ l. Some (l ++ x ∷ [])) (sym mine.1) ∙ ap Some (sym (grown_same lists role x) ∙ ap (grown lists role x) (sym is.1))
-                    ∙ sym (cond-true _ _ _ (eq-eqb j (seat r) (here.0 ∙ mine.0 ∙ ap seat (sym is.1)))))
-                (λ (is : (eqb r role ≡ false) × (r ≢ role)).
-                    cond-false _ _ _ is.0 ∙ seated.1 pass v at r h ∙ ap (λ l. cond (eqb pass (seat r)) (Some l) None) (sym (grown_other lists role x r is.1))
-                    ∙ ap (λ k. cond (eqb k (seat r)) (Some (grown lists role x r)) None) (sym here.0))
-                (eqb_tells r role))
+            (λ (is : (eqb r role ≡ true) × (r ≡ role)).
+            cond-true _ _ _ is.0 ∙ ap (λ l. Some (l ++ x ∷ [])) (sym mine.1) ∙ ap Some (sym (grown_same lists role x) ∙ ap (grown lists role x) (sym is.1))
+            ∙ sym (cond-true _ _ _ (eq-eqb j (seat r) (here.0 ∙ mine.0 ∙ ap seat (sym is.1)))))
+            (λ (is : (eqb r role ≡ false) × (r ≢ role)).
+            cond-false _ _ _ is.0 ∙ seated.1 pass v at r h ∙ ap (λ l. cond (eqb pass (seat r)) (Some l) None) (sym (grown_other lists role x r is.1))
+            ∙ ap (λ k. cond (eqb k (seat r)) (Some (grown lists role x r)) None) (sym here.0))
+            (eqb_tells r role))
             (λ (there : (j ≢ pass) × (get_elem? views j ≡ some u)). seated.1 j u there.1 r h ∙ ⊎_elim
-                (λ (is : (eqb r role ≡ true) × (r ≡ role)).
-                    let off : eqb j (seat r) ≡ false = ne_eqb j (seat r) (λ same. there.0 (same ∙ ap seat is.1 ∙ sym mine.0)) in
-                    cond-false _ _ _ off ∙ sym (cond-false _ _ _ off))
-                (λ (is : (eqb r role ≡ false) × (r ≢ role)). ap (λ l. cond (eqb j (seat r)) (Some l) None) (sym (grown_other lists role x r is.1)))
-                (eqb_tells r role))
+            (λ (is : (eqb r role ≡ true) × (r ≡ role)).
+            let off : eqb j (seat r) ≡ false = ne_eqb j (seat r) (λ same. there.0 (same ∙ ap seat is.1 ∙ sym mine.0)) in
+            cond-false _ _ _ off ∙ sym (cond-false _ _ _ off))
+            (λ (is : (eqb r role ≡ false) × (r ≢ role)). ap (λ l. cond (eqb j (seat r)) (Some l) None) (sym (grown_other lists role x r is.1)))
+            (eqb_tells r role))
             (at_set views pass j (added v role x) u e)),
         (λ j u e. ⊎_elim
             (λ (here : (j ≡ pass) × (added v role x ≡ u)). ap length (sym here.1) ∙ length-set v role (Some (list_of v role ++ x ∷ [])) ∙ long)
@@ -85,23 +84,24 @@ module _ {X : Type 0} where
   pushes n pass v x low high holds items views _ kept at =
       let seat = kept.0 in let lists = kept.1 in let whole = kept.3 in let now = grown lists x.0 x in
       let taken : now 0 ≡ lists 0 = grown_other lists x.0 x 0 (λ e. omega arith) in
-      let joined : now 0 ++ (items ++ x ∷ []) ≡ (lists 0 ++ items) ++ x ∷ [] = ap (λ l. l ++ (items ++ x ∷ [])) taken ∙ sym (append_assoc (lists 0) items (x ∷ [])) in
-      (
+      let joined : now 0 ++ (items ++ x ∷ []) ≡ (lists 0 ++ items) ++ x ∷ [] = ap (λ l. l ++ (items ++ x ∷ [])) taken ∙ sym (append_assoc (lists 0) items (x ∷ [])) in (
         added v x.0 x,
         (
           seat,
           now,
           seated_added seat lists views pass v x.0 x high kept.2 at holds,
-          ((λ feeder a b. ⊎_elim
-              (λ (is : (eqb feeder x.0 ≡ true) × (feeder ≡ x.0)).
-                  ap (λ k. loads (now k)) is.1 ∙ ap loads (grown_same lists x.0 x) ∙ map-append (λ p. p.1) (lists x.0) (x ∷ [])
-                  ∙ ap (λ k. loads (lists k) ++ x.1 ∷ []) (sym is.1) ∙ ap (λ l. l ++ x.1 ∷ []) (whole.0 feeder a b)
-                  ∙ sym (ap (from feeder) joined ∙ from-append feeder (lists 0 ++ items) x ∙ ap (λ l. from feeder (lists 0 ++ items) ++ l) (cond-true (eqb x.0 feeder) (x.1 ∷ []) [] (eq-eqb x.0 feeder (sym is.1)))))
-              (λ (is : (eqb feeder x.0 ≡ false) × (feeder ≢ x.0)).
-                  ap loads (grown_other lists x.0 x feeder is.1) ∙ whole.0 feeder a b ∙ sym (append-nil (from feeder (lists 0 ++ items)))
-                  ∙ sym (ap (from feeder) joined ∙ from-append feeder (lists 0 ++ items) x ∙ ap (λ l. from feeder (lists 0 ++ items) ++ l) (cond-false (eqb x.0 feeder) (x.1 ∷ []) [] (ne_eqb x.0 feeder (λ e. is.1 (sym e))))))
-              (eqb_tells feeder x.0)),
-          subst AllFed (sym joined) (fed-append (lists 0 ++ items) x whole.1 low high)),
+          (
+            (λ feeder a b. ⊎_elim
+                (λ (is : (eqb feeder x.0 ≡ true) × (feeder ≡ x.0)).
+                ap (λ k. loads (now k)) is.1 ∙ ap loads (grown_same lists x.0 x) ∙ map-append (λ p. p.1) (lists x.0) (x ∷ [])
+                ∙ ap (λ k. loads (lists k) ++ x.1 ∷ []) (sym is.1) ∙ ap (λ l. l ++ x.1 ∷ []) (whole.0 feeder a b)
+                ∙ sym (ap (from feeder) joined ∙ from-append feeder (lists 0 ++ items) x ∙ ap (λ l. from feeder (lists 0 ++ items) ++ l) (cond-true (eqb x.0 feeder) (x.1 ∷ []) [] (eq-eqb x.0 feeder (sym is.1)))))
+                (λ (is : (eqb feeder x.0 ≡ false) × (feeder ≢ x.0)).
+                ap loads (grown_other lists x.0 x feeder is.1) ∙ whole.0 feeder a b ∙ sym (append-nil (from feeder (lists 0 ++ items)))
+                ∙ sym (ap (from feeder) joined ∙ from-append feeder (lists 0 ++ items) x ∙ ap (λ l. from feeder (lists 0 ++ items) ++ l) (cond-false (eqb x.0 feeder) (x.1 ∷ []) [] (ne_eqb x.0 feeder (λ e. is.1 (sym e))))))
+                (eqb_tells feeder x.0)),
+            subst AllFed (sym joined) (fed-append (lists 0 ++ items) x whole.1 low high),
+          ),
         ),
         refl,
       )
@@ -113,15 +113,16 @@ module _ {X : Type 0} where
   pub pops : (pass : ℕ) (v : List (Option (List (ℕ × X)))) → HoldsRole v 0 → Pops Kept pass v (λ x w. (w ≡ added v 0 x) × (0 < x.0) × (x.0 < 6))
   pops pass v holds x items views kept at =
       let seat = kept.0 in let lists = kept.1 in let whole = kept.3 in let now = grown lists 0 x in
-      let joined : now 0 ++ items ≡ lists 0 ++ x ∷ items = ap (λ l. l ++ items) (grown_same lists 0 x) ∙ append_assoc (lists 0) (x ∷ []) items in
-      (
+      let joined : now 0 ++ items ≡ lists 0 ++ x ∷ items = ap (λ l. l ++ items) (grown_same lists 0 x) ∙ append_assoc (lists 0) (x ∷ []) items in (
         added v 0 x,
         (
           seat,
           now,
           seated_added seat lists views pass v 0 x (omega arith) kept.2 at holds,
-          ((λ feeder a b. ap loads (grown_other lists 0 x feeder (λ e. omega arith)) ∙ whole.0 feeder a b ∙ ap (from feeder) (sym joined)),
-          subst AllFed (sym joined) whole.1),
+          (
+            (λ feeder a b. ap loads (grown_other lists 0 x feeder (λ e. omega arith)) ∙ whole.0 feeder a b ∙ ap (from feeder) (sym joined)),
+            subst AllFed (sym joined) whole.1,
+          ),
         ),
         (let fed = fed_middle (lists 0) x items whole.1 in (refl, fed.0, fed.1)),
       )

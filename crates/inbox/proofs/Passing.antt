@@ -1,5 +1,5 @@
 -- A role that goes to a pass of its own, and passes that are joined, keep the rule.
-use Rattle.std.proofs.Common.{◌≡◌, ◌≢◌, ◌⊎◌, ℕ, zero, suc, ◌<◌, ◌+◌, Bool, true, false, cond, eqb, ◌&&◌, ◌||◌, List, [], ◌∷◌, ◌++◌, length, set, Option, Some, None, refl, sym, ap, ◌∙◌, subst, ⊎_elim, inl, inr, arith, length-append}
+use Rattle.std.proofs.Common.{◌≡◌, ◌≢◌, ◌⊎◌, ℕ, zero, suc, ◌<◌, ◌+◌, true, false, cond, eqb, ◌&&◌, List, [], ◌∷◌, ◌++◌, length, set, Option, Some, None, refl, sym, ap, ◌∙◌, subst, ⊎_elim, inl, inr, arith, length-append}
 use Rattle.std.specs.Prelude.{is_some}
 use Rattle.std.proofs.lemmas.Bool.{cond-true, cond-false, or_from, and_left, and_right}
 use Rattle.std.proofs.lemmas.Bool.Decides.{eqb_tells}
@@ -8,7 +8,7 @@ use mathlib.Core.Option.{some, some-ne-none, some-injective}
 use lib.ListN.{get_elem?}
 use Rattle.crossbeam_queue.specs.Fifo.{Forks, Merges}
 use Rattle.crossbeam_queue.proofs.Lists.{at_set}
-use Rattle.inbox.specs.Roles.{part, list_of, HoldsRole, everything, nothing, only, without, clash, either_of, united, both_of, Seated, Whole, Kept}
+use Rattle.inbox.specs.Roles.{part, HoldsRole, everything, nothing, only, without, clash, either_of, united, both_of, Kept}
 use Rattle.inbox.proofs.Moves.{seat_of, part_set}
 
 module _ {A : Type 0} where
@@ -84,8 +84,7 @@ module _ {X : Type 0} where
       let long : length v ≡ 6 = seated.2 pass v at in
       let same : length vs ≡ length views = length-set views pass left in
       let more : length (vs ++ right ∷ []) ≡ length vs + 1 = length-append vs (right ∷ []) in
-      let now : ℕ → ℕ = λ r. cond (eqb r role) (length vs) (seat r) in
-      (
+      let now : ℕ → ℕ = λ r. cond (eqb r role) (length vs) (seat r) in (
         now,
         lists,
         (
@@ -95,32 +94,32 @@ module _ {X : Type 0} where
               (eqb_tells r role)),
           (λ j u e r h. ⊎_elim
               (λ (is : (eqb r role ≡ true) × (r ≡ role)). subst (SeatedAt lists j u r) (sym (cond-true (eqb r role) (length vs) (seat r) is.0)) (⊎_elim
-                  (λ (t : (j < length vs) × (get_elem? vs j ≡ some u)). told (part u r) (lists r) j (length vs)
-                      (λ clash. let less = t.0 in absurd (omega (arith, less, clash)))
-                      (λ _. ⊎_elim
-                          (λ (here : (j ≡ pass) × (left ≡ u)). ap (λ x. part x r) (sym here.1) ∙ part_set v role r None (omega (arith, long, small)) ∙ cond-true (eqb r role) None (part v r) is.0)
-                          (λ (there : (j ≢ pass) × (get_elem? views j ≡ some u)). not_here (part u r) (lists r) j (seat r) (seated.1 j u there.1 r h) (λ sits. there.0 (sits ∙ ap seat is.1 ∙ sym mine.0)))
-                          (at_set views pass j left u t.1)))
-                  (λ (t : (j ≡ length vs) × (right ≡ u)). told (part u r) (lists r) j (length vs)
-                      (λ _. ap (λ x. part x r) (sym t.1) ∙ part_set nothing role r (part v role) small ∙ cond-true (eqb r role) (part v role) (part nothing r) is.0 ∙ holds ∙ ap Some (sym mine.1 ∙ ap lists (sym is.1)))
-                      (λ apart. absurd (apart t.0)))
-                  (last_or vs right u j e)))
+              (λ (t : (j < length vs) × (get_elem? vs j ≡ some u)). told (part u r) (lists r) j (length vs)
+              (λ clash. let less = t.0 in absurd (omega (arith, less, clash)))
+              (λ _. ⊎_elim
+              (λ (here : (j ≡ pass) × (left ≡ u)). ap (λ x. part x r) (sym here.1) ∙ part_set v role r None (omega (arith, long, small)) ∙ cond-true (eqb r role) None (part v r) is.0)
+              (λ (there : (j ≢ pass) × (get_elem? views j ≡ some u)). not_here (part u r) (lists r) j (seat r) (seated.1 j u there.1 r h) (λ sits. there.0 (sits ∙ ap seat is.1 ∙ sym mine.0)))
+              (at_set views pass j left u t.1)))
+              (λ (t : (j ≡ length vs) × (right ≡ u)). told (part u r) (lists r) j (length vs)
+              (λ _. ap (λ x. part x r) (sym t.1) ∙ part_set nothing role r (part v role) small ∙ cond-true (eqb r role) (part v role) (part nothing r) is.0 ∙ holds ∙ ap Some (sym mine.1 ∙ ap lists (sym is.1)))
+              (λ apart. absurd (apart t.0)))
+              (last_or vs right u j e)))
               (λ (is : (eqb r role ≡ false) × (r ≢ role)). subst (SeatedAt lists j u r) (sym (cond-false (eqb r role) (length vs) (seat r) is.0)) (⊎_elim
-                  (λ (t : (j < length vs) × (get_elem? vs j ≡ some u)). ⊎_elim
-                      (λ (here : (j ≡ pass) × (left ≡ u)). ap (λ x. part x r) (sym here.1) ∙ part_set v role r None (omega (arith, long, small)) ∙ cond-false (eqb r role) None (part v r) is.0
-                          ∙ seated.1 pass v at r h ∙ ap (λ k. cond (eqb k (seat r)) (Some (lists r)) None) (sym here.0))
-                      (λ (there : (j ≢ pass) × (get_elem? views j ≡ some u)). seated.1 j u there.1 r h)
-                      (at_set views pass j left u t.1))
-                  (λ (t : (j ≡ length vs) × (right ≡ u)). told (part u r) (lists r) j (seat r)
-                      (λ sits. let low = seated.0 r h in let last = t.0 in absurd (omega (arith, low, last, sits, same)))
-                      (λ _. ap (λ x. part x r) (sym t.1) ∙ part_set nothing role r (part v role) small ∙ cond-false (eqb r role) (part v role) (part nothing r) is.0 ∙ part_nothing r))
-                  (last_or vs right u j e)))
+              (λ (t : (j < length vs) × (get_elem? vs j ≡ some u)). ⊎_elim
+              (λ (here : (j ≡ pass) × (left ≡ u)). ap (λ x. part x r) (sym here.1) ∙ part_set v role r None (omega (arith, long, small)) ∙ cond-false (eqb r role) None (part v r) is.0
+              ∙ seated.1 pass v at r h ∙ ap (λ k. cond (eqb k (seat r)) (Some (lists r)) None) (sym here.0))
+              (λ (there : (j ≢ pass) × (get_elem? views j ≡ some u)). seated.1 j u there.1 r h)
+              (at_set views pass j left u t.1))
+              (λ (t : (j ≡ length vs) × (right ≡ u)). told (part u r) (lists r) j (seat r)
+              (λ sits. let low = seated.0 r h in let last = t.0 in absurd (omega (arith, low, last, sits, same)))
+              (λ _. ap (λ x. part x r) (sym t.1) ∙ part_set nothing role r (part v role) small ∙ cond-false (eqb r role) (part v role) (part nothing r) is.0 ∙ part_nothing r))
+              (last_or vs right u j e)))
               (eqb_tells r role)),
           (λ j u e. ⊎_elim
               (λ (t : (j < length vs) × (get_elem? vs j ≡ some u)). ⊎_elim
-                  (λ (here : (j ≡ pass) × (left ≡ u)). ap length (sym here.1) ∙ length-set v role None ∙ long)
-                  (λ (there : (j ≢ pass) × (get_elem? views j ≡ some u)). seated.2 j u there.1)
-                  (at_set views pass j left u t.1))
+              (λ (here : (j ≡ pass) × (left ≡ u)). ap length (sym here.1) ∙ length-set v role None ∙ long)
+              (λ (there : (j ≢ pass) × (get_elem? views j ≡ some u)). seated.2 j u there.1)
+              (at_set views pass j left u t.1))
               (λ (t : (j ≡ length vs) × (right ≡ u)). ap length (sym t.1) ∙ length-set nothing role (part v role))
               (last_or vs right u j e)),
         ),
@@ -156,14 +155,13 @@ module _ {X : Type 0} where
       let was : get_elem? views other ≡ some w = ⊎_elim (λ (t : (other ≡ pass) × (both ≡ w)). absurd (two t.0)) (λ (t : (other ≢ pass) × (get_elem? views other ≡ some w)). t.1) (at_set views pass other both w at') in
       let long : length v ≡ 6 = seated.2 pass v at in let long' : length w ≡ 6 = seated.2 other w was in
       let free : clash v w ≡ false = apart_of v w (λ r l. ⊎_elim
-          (λ (t : (eqb pass (seat r) ≡ true) × (pass ≡ seat r)). inr (not_here (part w r) (lists r) other (seat r) (seated.1 other w was r (omega (arith, long, l))) (λ sits. two (sits ∙ sym t.1))))
-          (λ (t : (eqb pass (seat r) ≡ false) × (pass ≢ seat r)). inl (not_here (part v r) (lists r) pass (seat r) (seated.1 pass v at r (omega (arith, long, l))) t.1))
-          (eqb_tells pass (seat r))) in
+      (λ (t : (eqb pass (seat r) ≡ true) × (pass ≡ seat r)). inr (not_here (part w r) (lists r) other (seat r) (seated.1 other w was r (omega (arith, long, l))) (λ sits. two (sits ∙ sym t.1))))
+      (λ (t : (eqb pass (seat r) ≡ false) × (pass ≢ seat r)). inl (not_here (part v r) (lists r) pass (seat r) (seated.1 pass v at r (omega (arith, long, l))) t.1))
+      (eqb_tells pass (seat r))) in
       let is_both : both ≡ united v w = cond-false (clash v w) [] (united v w) free in
       let now : ℕ → ℕ = λ r. cond (eqb (seat r) other) pass (seat r) in
       let size : length (set vs other nothing) ≡ length views = length-set vs other nothing ∙ length-set views pass both in
-      let mine = below views pass v at in
-      (
+      let mine = below views pass v at in (
         now,
         lists,
         (
@@ -173,35 +171,35 @@ module _ {X : Type 0} where
               (eqb_tells (seat r) other)),
           (λ j u e r h. ⊎_elim
               (λ (is : (eqb (seat r) other ≡ true) × (seat r ≡ other)). subst (SeatedAt lists j u r) (sym (cond-true (eqb (seat r) other) pass (seat r) is.0)) (⊎_elim
-                  (λ (t : (j ≡ other) × (nothing ≡ u)). told (part u r) (lists r) j pass (λ same. absurd (two (sym t.0 ∙ same))) (λ _. ap (λ x. part x r) (sym t.1) ∙ part_nothing r))
-                  (λ (t : (j ≢ other) × (get_elem? vs j ≡ some u)). ⊎_elim
-                      (λ (here : (j ≡ pass) × (both ≡ u)). told (part u r) (lists r) j pass
-                          (λ _. ap (λ x. part x r) (sym here.1 ∙ is_both) ∙ part_united v w r
-                              ∙ ap (λ o. either_of o (part w r)) (not_here (part v r) (lists r) pass (seat r) (seated.1 pass v at r h) (λ sits. two (sym is.1 ∙ sym sits)))
-                              ∙ here_is (part w r) (lists r) other (seat r) (seated.1 other w was r h) (sym is.1))
-                          (λ apart. absurd (apart here.0)))
-                      (λ (there : (j ≢ pass) × (get_elem? views j ≡ some u)). told (part u r) (lists r) j pass
-                          (λ same. absurd (there.0 same))
-                          (λ _. not_here (part u r) (lists r) j (seat r) (seated.1 j u there.1 r h) (λ sits. t.0 (sits ∙ is.1))))
-                      (at_set views pass j both u t.1))
-                  (at_set vs other j nothing u e)))
+              (λ (t : (j ≡ other) × (nothing ≡ u)). told (part u r) (lists r) j pass (λ same. absurd (two (sym t.0 ∙ same))) (λ _. ap (λ x. part x r) (sym t.1) ∙ part_nothing r))
+              (λ (t : (j ≢ other) × (get_elem? vs j ≡ some u)). ⊎_elim
+              (λ (here : (j ≡ pass) × (both ≡ u)). told (part u r) (lists r) j pass
+              (λ _. ap (λ x. part x r) (sym here.1 ∙ is_both) ∙ part_united v w r
+              ∙ ap (λ o. either_of o (part w r)) (not_here (part v r) (lists r) pass (seat r) (seated.1 pass v at r h) (λ sits. two (sym is.1 ∙ sym sits)))
+              ∙ here_is (part w r) (lists r) other (seat r) (seated.1 other w was r h) (sym is.1))
+              (λ apart. absurd (apart here.0)))
+              (λ (there : (j ≢ pass) × (get_elem? views j ≡ some u)). told (part u r) (lists r) j pass
+              (λ same. absurd (there.0 same))
+              (λ _. not_here (part u r) (lists r) j (seat r) (seated.1 j u there.1 r h) (λ sits. t.0 (sits ∙ is.1))))
+              (at_set views pass j both u t.1))
+              (at_set vs other j nothing u e)))
               (λ (is : (eqb (seat r) other ≡ false) × (seat r ≢ other)). subst (SeatedAt lists j u r) (sym (cond-false (eqb (seat r) other) pass (seat r) is.0)) (⊎_elim
-                  (λ (t : (j ≡ other) × (nothing ≡ u)). told (part u r) (lists r) j (seat r) (λ sits. absurd (is.1 (sym sits ∙ t.0))) (λ _. ap (λ x. part x r) (sym t.1) ∙ part_nothing r))
-                  (λ (t : (j ≢ other) × (get_elem? vs j ≡ some u)). ⊎_elim
-                      (λ (here : (j ≡ pass) × (both ≡ u)).
-                          ap (λ x. part x r) (sym here.1 ∙ is_both) ∙ part_united v w r
-                              ∙ ap (λ o. either_of (part v r) o) (not_here (part w r) (lists r) other (seat r) (seated.1 other w was r h) (λ sits. is.1 (sym sits)))
-                              ∙ sym (either_none (part v r)) ∙ seated.1 pass v at r h ∙ ap (λ k. cond (eqb k (seat r)) (Some (lists r)) None) (sym here.0))
-                      (λ (there : (j ≢ pass) × (get_elem? views j ≡ some u)). seated.1 j u there.1 r h)
-                      (at_set views pass j both u t.1))
-                  (at_set vs other j nothing u e)))
+              (λ (t : (j ≡ other) × (nothing ≡ u)). told (part u r) (lists r) j (seat r) (λ sits. absurd (is.1 (sym sits ∙ t.0))) (λ _. ap (λ x. part x r) (sym t.1) ∙ part_nothing r))
+              (λ (t : (j ≢ other) × (get_elem? vs j ≡ some u)). ⊎_elim
+              (λ (here : (j ≡ pass) × (both ≡ u)).
+              ap (λ x. part x r) (sym here.1 ∙ is_both) ∙ part_united v w r
+              ∙ ap (λ o. either_of (part v r) o) (not_here (part w r) (lists r) other (seat r) (seated.1 other w was r h) (λ sits. is.1 (sym sits)))
+              ∙ sym (either_none (part v r)) ∙ seated.1 pass v at r h ∙ ap (λ k. cond (eqb k (seat r)) (Some (lists r)) None) (sym here.0))
+              (λ (there : (j ≢ pass) × (get_elem? views j ≡ some u)). seated.1 j u there.1 r h)
+              (at_set views pass j both u t.1))
+              (at_set vs other j nothing u e)))
               (eqb_tells (seat r) other)),
           (λ j u e. ⊎_elim
               (λ (t : (j ≡ other) × (nothing ≡ u)). ap length (sym t.1))
               (λ (t : (j ≢ other) × (get_elem? vs j ≡ some u)). ⊎_elim
-                  (λ (here : (j ≡ pass) × (both ≡ u)). ap length (sym here.1 ∙ is_both) ∙ length-united v w (long ∙ sym long') ∙ long)
-                  (λ (there : (j ≢ pass) × (get_elem? views j ≡ some u)). seated.2 j u there.1)
-                  (at_set views pass j both u t.1))
+              (λ (here : (j ≡ pass) × (both ≡ u)). ap length (sym here.1 ∙ is_both) ∙ length-united v w (long ∙ sym long') ∙ long)
+              (λ (there : (j ≢ pass) × (get_elem? views j ≡ some u)). seated.2 j u there.1)
+              (at_set views pass j both u t.1))
               (at_set vs other j nothing u e)),
         ),
         kept.3,

@@ -1,4 +1,4 @@
-use Rattle.inbox.proofs.Moves.{pops, learns, only_added}
+use Rattle.inbox.proofs.Moves.{pops, learns}
 use Rattle.inbox.proofs.seats.pop.Goals as goal
 
 pub pop_as-requires-clause-rule : goal.pop_as-requires-clause-rule

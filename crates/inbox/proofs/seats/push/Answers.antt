@@ -1,4 +1,4 @@
-use Rattle.inbox.proofs.Moves.{pushes, learns, only_added}
+use Rattle.inbox.proofs.Moves.{pushes, learns}
 use Rattle.inbox.proofs.seats.push.Goals as goal
 
 pub push_as-requires-clause-rule : goal.push_as-requires-clause-rule
