@@ -101,7 +101,7 @@ module _ {X : Type 0} where
   abbrev pub Moment : List (Option (List (ℕ × X))) → List (ℕ × X) → Type 0
   Moment view items = (pass : ℕ) × (views : List (List (Option (List (ℕ × X))))) × Kept items views × (get_elem? views pass ≡ some view)
 
-  -- the view has all that the other held, and all that it held itself
+  -- the new view holds, of each role that the old one held, the same list
   abbrev pub KeepsRoles : List (Option (List (ℕ × X))) → List (Option (List (ℕ × X))) → Type 0
   KeepsRoles old new = (role : ℕ) (parcels : List (ℕ × X)) → part old role ≡ Some parcels → part new role ≡ Some parcels
 
