@@ -116,6 +116,9 @@ IsWords-either = IsWords-zip2 bit_or (or_lt 64)
 pub IsWords-not : (xs : List ℕ) → IsWords xs → IsWords (map (bit_not w64) xs)
 IsWords-not = IsWords-map (bit_not w64) (λ a h. omega arith)
 
+-- what the operations leave in the words and in their slots, for the tactics
+pub ruleset operations = (IsWords-both, IsWords-either, slots_of-both, slots_of-either, slots_of-but_not)
+
 -- ---- all slots on, or none
 
 word_slots_all : (w : ℕ) (on : Bool) → ((i : ℕ) → i < 64 → eqb (bit_at w i) 1 ≡ on) → word_slots w ≡ replicate 64 on

@@ -48,6 +48,7 @@ impl QuerySet {
     }
 
     /// The slots that are in both sets.
+    #[tactic(auto, using(crate::proofs::Words::operations))]
     pub fn and(&self, o: &QuerySet) -> QuerySet
         ensures slots { (length self.now ≡ 512) × (length o.now ≡ 512) }
         ensures value { result ≡ both self.now o.now }
@@ -56,6 +57,7 @@ impl QuerySet {
     }
 
     /// The slots that are in either set.
+    #[tactic(auto, using(crate::proofs::Words::operations))]
     pub fn or(&self, o: &QuerySet) -> QuerySet
         ensures slots { (length self.now ≡ 512) × (length o.now ≡ 512) }
         ensures value { result ≡ either self.now o.now }
@@ -64,6 +66,7 @@ impl QuerySet {
     }
 
     /// The slots of this set that are not in the other.
+    #[tactic(auto, using(crate::proofs::Words::operations))]
     pub fn and_not(&self, o: &QuerySet) -> QuerySet
         ensures slots { (length self.now ≡ 512) × (length o.now ≡ 512) }
         ensures value { result ≡ but_not self.now o.now }
@@ -244,13 +247,45 @@ mod tests {
     }
 
     #[test]
+    fn slots_of_the_first_set_alone(rt: HostRuntime) -> Result<(), Fail> {
+        let some = QuerySet::none()
+            .with(1, true)
+            .with(64, true)
+            .with(130, true)
+            .with(200, true)
+            .with(511, true);
+        let others = QuerySet::none()
+            .with(64, true)
+            .with(300, true)
+            .with(511, true);
+        let left = some.and_not(&others);
+        assert_eq!(rt; left.ones(), 3);
+        assert!(rt; left.test(1) && left.test(130) && left.test(200));
+        let left = others.and_not(&some);
+        assert_eq!(rt; left.ones(), 1);
+        assert!(rt; left.test(300));
+        assert_eq!(rt; some.and_not(&QuerySet::none()).ones(), 5);
+        assert_eq!(rt; QuerySet::all().and_not(&some).ones(), 507);
+        Ok(())
+    }
+
+    #[test]
     fn batches_of_each_length(rt: HostRuntime) -> Result<(), Fail> {
         let mask = QuerySet::none().with(7, true).with(500, true);
-        for (length, meeting, left) in [(0, 0, 0), (1, 1, 2), (7, 4, 6), (8, 4, 6), (9, 5, 8)] {
-            // Slot 7 is in every second set, slot 500 in every fourth, slot 9 in each.
-            let mut sets = [QuerySet::none().with(9, true); 9];
+        for (length, meeting, left) in [
+            (0, 0, 0),
+            (1, 1, 2),
+            (7, 3, 4),
+            (8, 3, 4),
+            (9, 4, 5),
+            (16, 7, 8),
+            (17, 8, 9),
+        ] {
+            // Slot 7 is in every fourth set, slot 500 in every fifth, slot 9 in each: the second eight meet the mask
+            // once more than the first eight.
+            let mut sets = [QuerySet::none().with(9, true); 17];
             for (i, set) in sets.iter_mut().enumerate() {
-                *set = set.with(7, i % 2 == 0).with(500, i % 4 == 0);
+                *set = set.with(7, i % 4 == 0).with(500, i % 5 == 0);
             }
             assert!(rt; length <= sets.len());
             let (batch, rest) = sets.split_at_mut(length);
