@@ -1,8 +1,6 @@
 use Rattle.std.specs.Prelude.{ℕ, ◌<◌, ◌^◌, IsTrue}
 use Rattle.as_base.specs.Text.{is_text}
 use Rattle.as_base.specs.declared.item.TheConstants.{FOREVER}
-use Rattle.as_base.specs.declared.item.Given.{Given}
-use Rattle.as_base.specs.declared.item.Cause.{Cause}
 use Rattle.as_base.specs.declared.item.StreamId.{StreamId}
 use Rattle.as_base.specs.declared.item.StreamId.TheVariants.{A, B, C, D}
 use Rattle.as_base.specs.declared.item.Item.{Item}

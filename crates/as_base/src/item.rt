@@ -35,8 +35,6 @@ pub enum Cause {
     Long,
     /// The line is in none of the forms.
     Form,
-    /// The line is none that this stage reads.
-    Later,
 }
 
 /// What one line of the input says.

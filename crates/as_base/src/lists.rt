@@ -11,15 +11,18 @@ pub struct Text {
 }
 
 impl Model for Text {
-    ghost use Rattle.std.specs.Prelude.{List, ℕ};
+    ghost use Rattle.std.specs.Prelude.{List, ℕ, IsTrue};
+    ghost use Rattle.as_base.specs.Text.{is_text};
 
     ghost Value = { List ℕ };
 
     ghost view = { λ t. t.bytes.items };
+
+    ghost invariant = { λ t. IsTrue (is_text t.bytes.items) };
 }
 
 impl Text {
-    /// Takes the bytes of a text as they are, without memory.
+    /// Takes the bytes of a text as they are, without memory. `is_text` is the test for them.
     pub fn from_vec(v: Vec<u8>) -> Text
         requires { IsTrue (is_text v.items) }
         ensures { result ≡ v.items }
@@ -29,7 +32,8 @@ impl Text {
 
     /// The bytes.
     pub fn as_slice(&self) -> &[u8]
-        ensures { result.now ≡ self.now }
+        ensures value { result.now ≡ self.now }
+        ensures text { IsTrue (is_text result.now) }
     {
         self.bytes.as_slice()
     }

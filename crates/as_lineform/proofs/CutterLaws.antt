@@ -1,14 +1,14 @@
 use Rattle.std.proofs.Common.{◌≡◌, ◌≢◌, ℕ, true, false, ◌==◌, nat_le, nat_lt, Option, Some, None, List, [], ◌∷◌, ◌++◌, length, refl, sym, ap, ◌∙◌, arith, length-append}
 use Rattle.std.proofs.lemmas.Bool.{cond_both, cond-true, cond-false, leb-false, lt-ltb, lt-leb, eq-eqb, ne_eqb}
-use Rattle.as_base.specs.declared.item.Cause.TheVariants.{Later}
+use Rattle.as_base.specs.declared.item.Cause.TheVariants.{Long}
 use Rattle.as_base.specs.declared.item.Item.{Item}
 use Rattle.as_base.specs.declared.item.Item.TheVariants.{Bad}
 use Rattle.as_base.specs.Range.{InRange}
 use Rattle.as_lineform.specs.declared.item.TheConstants.{LINE_MAX}
-use Rattle.as_lineform.specs.Item.{item_of_line, IsTaken}
+use Rattle.as_lineform.specs.Item.{item_of_line}
 use Rattle.as_lineform.specs.Lines.{rest, lines}
 use Rattle.as_lineform.specs.Cutter.{kept, kept_more, item_of_kept, HasRead}
-use Rattle.as_lineform.proofs.ItemLaws.{InRange-item_of_line, IsTaken-item_of_line}
+use Rattle.as_lineform.proofs.ItemLaws.{InRange-item_of_line}
 use Rattle.as_lineform.proofs.LineLaws.{rest_push, lines_push}
 
 -- what is kept of a line says the line's item
@@ -16,7 +16,7 @@ pub item_of_kept-kept : (line : List ℕ) → item_of_kept (kept line) ≡ item_
 item_of_kept-kept line =
     cond_both (nat_le (length line) LINE_MAX) (Some line) None (λ o. item_of_kept o ≡ item_of_line line)
     (λ h. refl)
-    (λ h. sym (cond-true (nat_lt LINE_MAX (length line)) (Bad Later) _ (lt-ltb LINE_MAX (length line) (leb-false (length line) LINE_MAX h))))
+    (λ h. sym (cond-true (nat_lt LINE_MAX (length line)) (Bad Long) _ (lt-ltb LINE_MAX (length line) (leb-false (length line) LINE_MAX h))))
 
 -- a line with one more byte
 pub kept_more-kept : (line : List ℕ) (b : ℕ) → kept_more (kept line) b ≡ kept (line ++ b ∷ [])
@@ -30,10 +30,6 @@ kept_more-kept line b =
 pub InRange-item_of_kept : (o : Option (List ℕ)) → InRange (item_of_kept o)
 InRange-item_of_kept (Some line) = InRange-item_of_line line
 InRange-item_of_kept None = tt
-
-pub IsTaken-item_of_kept : (o : Option (List ℕ)) → IsTaken (item_of_kept o)
-IsTaken-item_of_kept (Some line) = IsTaken-item_of_line line
-IsTaken-item_of_kept None = refl
 
 -- a line feed ends the line
 pub reads_line : (bytes : List ℕ) (byte : ℕ) (old new : Option (List ℕ)) (item : Item) → byte ≡ 10 → HasRead old bytes → new ≡ Some [] → item ≡ item_of_kept old

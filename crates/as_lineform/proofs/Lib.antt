@@ -1,6 +1,5 @@
-pub mod PartLaws
 pub mod ItemLaws
+pub mod SpellingLaws
 pub mod LineLaws
 pub mod CutterLaws
-mod NumberLaws
 mod ReadingLaws

@@ -3,10 +3,10 @@ use Rattle.std.proofs.lemmas.List.{map-append, length-map}
 use Rattle.std.specs.List.{AllByRecursion}
 use Rattle.as_base.specs.declared.item.Item.{Item}
 use Rattle.as_base.specs.Range.{InRange}
-use Rattle.as_lineform.specs.Item.{item_of_line, IsTaken}
+use Rattle.as_lineform.specs.Item.{item_of_line}
 use Rattle.as_lineform.specs.Lines.{whole, rest, lines, last_item, items}
-use Rattle.as_lineform.proofs.PartLaws.{but_last_by_byte, last_of_by_byte, parts_of-le}
-use Rattle.as_lineform.proofs.ItemLaws.{InRange-item_of_line, IsTaken-item_of_line}
+use Rattle.as_words.proofs.PartLaws.{but_last_by_byte, last_of_by_byte, parts_of-le}
+use Rattle.as_lineform.proofs.ItemLaws.{InRange-item_of_line}
 
 -- one more byte: the rest of the bytes, and the items of the whole lines
 pub rest_push : (bytes : List ℕ) (b : ℕ) → rest (bytes ++ b ∷ []) ≡ (if b == 10 then [] else rest bytes ++ b ∷ [])
@@ -48,12 +48,6 @@ All-lines bytes = all_mapped InRange InRange-item_of_line (whole bytes)
 
 pub All-items : (bytes : List ℕ) → AllByRecursion InRange (items bytes)
 All-items bytes = all_items InRange InRange-item_of_line bytes
-
-pub IsTaken-lines : (bytes : List ℕ) → AllByRecursion IsTaken (lines bytes)
-IsTaken-lines bytes = all_mapped IsTaken IsTaken-item_of_line (whole bytes)
-
-pub IsTaken-items : (bytes : List ℕ) → AllByRecursion IsTaken (items bytes)
-IsTaken-items bytes = all_items IsTaken IsTaken-item_of_line bytes
 
 pub length-lines-le : (bytes : List ℕ) → length (lines bytes) ≤ length bytes
 length-lines-le bytes = omega (arith, length-map (whole bytes) item_of_line, parts_of-le 10 bytes)

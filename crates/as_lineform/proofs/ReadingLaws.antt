@@ -1,28 +1,14 @@
-use Rattle.std.proofs.Common.{◌≡◌, ◌↔◌, ℕ, ℤ, Bool, true, false, Option, Some, None, List, [], ◌∷◌, refl, sym, ap, ◌∙◌, is_some, not, option_map}
+use Rattle.std.proofs.Common.{◌≡◌, ◌↔◌, ℕ, ℤ, Bool, true, false, Option, Some, None, List, [], ◌∷◌, refl, sym, ap, ◌∙◌, option_map}
 use Rattle.std.specs.Bool.{IsTrue, then_some}
-use denote.Ref.{Bor}
 use Rattle.as_base.specs.declared.item.TheConstants.{FOREVER}
 use Rattle.as_base.specs.declared.item.StreamId.{StreamId}
 use Rattle.as_base.specs.declared.item.Given.{Given}
-use Rattle.as_lineform.specs.Parts.{parts_of}
-use Rattle.as_lineform.specs.Number.{natural, integer}
+use Rattle.as_words.specs.Number.{natural, integer}
 use Rattle.as_lineform.specs.Item.{◌>>=◌, given_of}
-use Rattle.as_lineform.specs.Reading.{words_of, next_by, next_four}
+use Rattle.as_lineform.specs.Reading.{next_by, next_four}
 use Rattle.std.proofs.Common.{to_z, of_z, w64}
 use Rattle.std.proofs.lemmas.Int.{to_z-of_z}
-use Rattle.as_lineform.proofs.NumberLaws.{integer-fits}
-use Rattle.as_lineform.proofs.PartLaws.{HasPart-parts_of, HasPart}
-
-some_part : (parts : List (List ℕ)) → HasPart parts → parts ≡ [] → ⊥
-some_part [] h e = absurd h
-some_part (part ∷ parts) h e = cc e
-
--- no word is left just where nothing of the line is
-pub words_of-none : (rest : Option (Bor (List ℕ))) (none : Bool) → is_some rest ≡ not none → IsTrue none ↔ (words_of rest ≡ [])
-words_of-none None true e = (λ h. refl, λ h. refl)
-words_of-none None false e = cc e
-words_of-none (Some line) true e = cc e
-words_of-none (Some line) false e = (λ h. cc h, λ h. absurd (some_part (parts_of 32 line.now) (HasPart-parts_of 32 line.now) h))
+use Rattle.as_words.proofs.NumberLaws.{integer-fits}
 
 bind_map : {X Y Z : Type 0} (o : Option X) (g : X → Y) (k : Y → Option Z) → (option_map g o >>= k) ≡ (o >>= (λ x. k (g x)))
 bind_map None g k = refl
@@ -36,7 +22,7 @@ bind_bind : {X Y Z : Type 0} (o : Option X) (k : X → Option Y) (l : Y → Opti
 bind_bind None k l = refl
 bind_bind (Some x) k l = refl
 
-bind_some : {X Y : Type 0} (o : Option X) (k : X → Option Y) (y : Y) → (o >>= k) ≡ Some y → (x : X) × (o ≡ Some x) × (k x ≡ Some y)
+pub bind_some : {X Y : Type 0} (o : Option X) (k : X → Option Y) (y : Y) → (o >>= k) ≡ Some y → (x : X) × (o ≡ Some x) × (k x ≡ Some y)
 bind_some None k y e = cc e
 bind_some (Some x) k y e = (x, refl, e)
 

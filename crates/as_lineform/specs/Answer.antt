@@ -1,4 +1,4 @@
-use Rattle.std.specs.Prelude.{ℕ, ◌≡◌, List, ◌++◌, codes, decimal}
+use Rattle.std.specs.Prelude.{ℕ, List, ◌++◌, codes, decimal}
 use Rattle.as_base.specs.declared.answer.Word.{Word}
 use Rattle.as_base.specs.declared.answer.Word.TheVariants.{Created, Deleted, Long, Form, Stranger, Ended, Late, Back, Syntax, Twin, Window, Full, Unknown, Later}
 use Rattle.as_base.specs.declared.answer.Answer.{Answer}
@@ -23,7 +23,3 @@ word_text Later = codes "later"
 -- the text of an answer: its line's number, its word, a line feed
 abbrev pub text_of : Answer → List ℕ
 text_of a = decimal a.line ++ codes " " ++ word_text a.word ++ codes "\n"
-
--- the second list goes on from the first
-abbrev pub Grows : List ℕ → List ℕ → Type 0
-Grows old new = (more : List ℕ) × (new ≡ old ++ more)

@@ -1,12 +1,12 @@
 use Rattle.std.specs.Prelude.{ℕ, ◌≡◌, nat_le, if◌then◌else◌, Option, Some, None, List, [], ◌∷◌, ◌++◌, length}
-use Rattle.as_base.specs.declared.item.Cause.TheVariants.{Later}
+use Rattle.as_base.specs.declared.item.Cause.TheVariants.{Long}
 use Rattle.as_base.specs.declared.item.Item.{Item}
 use Rattle.as_base.specs.declared.item.Item.TheVariants.{Bad}
 use Rattle.as_base.specs.Range.{InRange}
 use Rattle.as_lineform.specs.declared.item.TheConstants.{LINE_MAX}
 use Rattle.as_lineform.specs.declared.cutter.Step.{Step}
 use Rattle.as_lineform.specs.declared.cutter.Step.TheVariants.{Line, More}
-use Rattle.as_lineform.specs.Item.{item_of_line, IsTaken}
+use Rattle.as_lineform.specs.Item.{item_of_line}
 use Rattle.as_lineform.specs.Lines.{rest}
 
 -- what a cutter keeps of a line: the line, or nothing where it is longer than a line may be
@@ -21,7 +21,7 @@ kept_more None b = None
 -- the item of a line of which this was kept
 abbrev pub item_of_kept : Option (List ℕ) → Item
 item_of_kept (Some line) = item_of_line line
-item_of_kept None = Bad Later
+item_of_kept None = Bad Long
 
 -- the cutter has taken these bytes
 abbrev pub HasRead : Option (List ℕ) → List ℕ → Type 0
@@ -36,8 +36,3 @@ items_in More = []
 abbrev pub StepInRange : Step → Type 0
 StepInRange (Line item) = InRange item
 StepInRange More = Unit {0}
-
--- the items that a step gives are those of this stage
-abbrev pub StepIsTaken : Step → Type 0
-StepIsTaken (Line item) = IsTaken item
-StepIsTaken More = Unit {0}

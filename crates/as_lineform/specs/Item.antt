@@ -1,20 +1,30 @@
-use Rattle.std.specs.Prelude.{ℕ, ◌≡◌, ◌&&◌, nat_lt, if◌then◌else◌, Option, Some, None, List, [], ◌∷◌, length, codes}
-use Rattle.std.specs.Option.{option_and_then, option_map_or}
+use Rattle.std.specs.Prelude.{ℕ, false, ◌^◌, ◌&&◌, nat_lt, if◌then◌else◌, Option, Some, None, List, [], ◌∷◌, length, take, drop, codes, unwrap_or}
+use Rattle.std.specs.Option.{option_and_then, option_map, option_map_or}
 use Rattle.std.specs.Str.{bytes_eq}
+use Rattle.as_base.specs.Text.{is_spaced}
 use Rattle.as_base.specs.declared.item.TheConstants.{FOREVER}
 use Rattle.as_base.specs.declared.item.StreamId.{StreamId}
-use Rattle.as_base.specs.declared.item.StreamId.TheVariants.{A}
+use Rattle.as_base.specs.declared.item.StreamId.TheVariants.{A, B, C, D}
 use Rattle.as_base.specs.declared.item.Given.{Given}
-use Rattle.as_base.specs.declared.item.Cause.TheVariants.{Later}
+use Rattle.as_base.specs.declared.item.Cause.TheVariants.{Long, Form}
 use Rattle.as_base.specs.declared.item.Item.{Item}
-use Rattle.as_base.specs.declared.item.Item.TheVariants.{Rec, Mark, Create, Bad}
+use Rattle.as_base.specs.declared.item.Item.TheVariants.{Rec, Mark, End, Create, Delete, Bad}
 use Rattle.as_lineform.specs.declared.item.TheConstants.{LINE_MAX}
-use Rattle.as_lineform.specs.Parts.{parts_of}
-use Rattle.as_lineform.specs.Number.{natural, integer}
+use Rattle.as_words.specs.Parts.{parts_of}
+use Rattle.as_words.specs.Number.{natural, integer}
 
 infixl 10 ◌>>=◌
 abbrev pub ◌>>=◌ : {X Y : Type 0} → Option X → (X → Option Y) → Option Y
 o >>= f = option_and_then f o
+
+-- the stream of this name
+abbrev pub stream_of : List ℕ → Option StreamId
+stream_of word =
+    if bytes_eq word (codes "a") then Some A
+    else (if bytes_eq word (codes "b") then Some B
+    else (if bytes_eq word (codes "c") then Some C
+    else (if bytes_eq word (codes "d") then Some D
+    else None)))
 
 -- the record of the stream whose words after the stream's are these
 abbrev pub given_of : StreamId → List (List ℕ) → Option Given
@@ -28,42 +38,52 @@ given_of stream (time ∷ key ∷ v1 ∷ v2 ∷ v3 ∷ v4 ∷ []) = do
   Some (record { stream = stream; time = t; key = k; v = x1 ∷ x2 ∷ x3 ∷ x4 ∷ [] })
 given_of stream _ = None
 
-abbrev pub record_item : StreamId → List (List ℕ) → Item
-record_item stream fields = option_map_or Rec (given_of stream fields) (Bad Later)
+-- the number below the limit that the one word spells
+abbrev pub alone_of : ℕ → List (List ℕ) → Option ℕ
+alone_of limit (word ∷ []) = natural limit word
+alone_of limit _ = None
 
--- the time that the one word spells
-abbrev pub time_of : List (List ℕ) → Option ℕ
-time_of (time ∷ []) = natural FOREVER time
-time_of _ = None
+-- the end of the stream, after whose name no word may follow
+abbrev pub end_of : StreamId → List (List ℕ) → Option Item
+end_of stream [] = Some (End stream)
+end_of stream _ = None
 
-abbrev pub mark_item : StreamId → List (List ℕ) → Item
-mark_item stream fields = option_map_or (Mark stream) (time_of fields) (Bad Later)
+-- what a line of this form says of the stream
+abbrev pub item_of_stream : List ℕ → List (List ℕ) → StreamId → Option Item
+item_of_stream form fields stream =
+    if bytes_eq form (codes "rec") then option_map Rec (given_of stream fields)
+    else (if bytes_eq form (codes "mark") then option_map (Mark stream) (alone_of FOREVER fields)
+    else (if bytes_eq form (codes "end") then end_of stream fields
+    else None))
 
--- the item of a line's words
-abbrev pub item_of_words : List (List ℕ) → Item
-item_of_words (form ∷ stream ∷ fields) =
-    if bytes_eq form (codes "rec") && bytes_eq stream (codes "a") then record_item A fields
-    else (if bytes_eq form (codes "mark") && bytes_eq stream (codes "a") then mark_item A fields
-    else Bad Later)
-item_of_words _ = Bad Later
+-- the item of a form with the words after it, of which the first names a stream
+abbrev pub item_of_form : List ℕ → List (List ℕ) → Option Item
+item_of_form form (stream ∷ fields) = stream_of stream >>= item_of_stream form fields
+item_of_form form [] = None
 
--- The item that a line says. This stage reads records and marks of stream a, and the creation of the selection from a.
+-- the item of a line's words, if they are not a creation's
+abbrev pub item_of_words : List (List ℕ) → Option Item
+item_of_words (form ∷ fields) =
+    if bytes_eq form (codes "delete") then option_map Delete (alone_of (2 ^ 63) fields)
+    else item_of_form form fields
+item_of_words [] = None
+
+-- the query text of a creation; the line `create` has the empty text
+abbrev pub creation_of : List ℕ → Option (List ℕ)
+creation_of line =
+    if bytes_eq line (codes "create") then Some []
+    else (if bytes_eq (take 7 line) (codes "create ") && is_spaced false (drop 7 line) then Some (drop 7 line)
+    else None)
+
+-- the item of a line that is not too long
+abbrev pub item_of_short : List ℕ → Item
+item_of_short line = option_map_or Create (creation_of line) (unwrap_or (item_of_words (parts_of 32 line)) (Bad Form))
+
+-- the item that a line says
 abbrev pub item_of_line : List ℕ → Item
-item_of_line line =
-    if nat_lt LINE_MAX (length line) then Bad Later
-    else (if bytes_eq line (codes "create select from a") then Create (codes "select from a")
-    else item_of_words (parts_of 32 line))
+item_of_line line = if nat_lt LINE_MAX (length line) then Bad Long else item_of_short line
 
 -- the item is a creation, which alone takes memory
 abbrev pub IsCreation : Item → Type 0
 IsCreation (Create text) = Unit {0}
 IsCreation _ = ⊥
-
--- The item is one that this stage takes in: a record or a mark of stream a, a creation of the one text, or a line
--- that is asked for later.
-abbrev pub IsTaken : Item → Type 0
-IsTaken (Rec g) = g.stream ≡ A
-IsTaken (Mark s t) = s ≡ A
-IsTaken (Create text) = text ≡ codes "select from a"
-IsTaken (Bad c) = c ≡ Later
-IsTaken _ = ⊥

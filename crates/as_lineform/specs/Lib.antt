@@ -1,6 +1,5 @@
-pub mod Parts
-pub mod Number
 pub mod Item
+pub mod Spelling
 pub mod Reading
 pub mod Lines
 pub mod Cutter

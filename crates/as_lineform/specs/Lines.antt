@@ -1,6 +1,6 @@
 use Rattle.std.specs.Prelude.{ℕ, List, [], ◌∷◌, ◌++◌, map}
 use Rattle.as_base.specs.declared.item.Item.{Item}
-use Rattle.as_lineform.specs.Parts.{parts_of, but_last, last_of}
+use Rattle.as_words.specs.Parts.{parts_of, but_last, last_of}
 use Rattle.as_lineform.specs.Item.{item_of_line}
 
 -- the lines that a line feed ends, without it

@@ -1,15 +1,8 @@
 -- What is read of the words that are left, with the words left after it.
 use Rattle.std.specs.Prelude.{ℕ, ℤ, ◌≡◌, Option, Some, None, List, [], ◌∷◌}
 use Rattle.std.specs.Option.{option_map}
-use denote.Ref.{Bor}
-use Rattle.as_lineform.specs.Parts.{parts_of}
-use Rattle.as_lineform.specs.Number.{integer}
+use Rattle.as_words.specs.Number.{integer}
 use Rattle.as_lineform.specs.Item.{◌>>=◌}
-
--- the words of what is left of a line; nothing left has none
-abbrev pub words_of : Option (Bor (List ℕ)) → List (List ℕ)
-words_of None = []
-words_of (Some rest) = parts_of 32 rest.now
 
 -- the next word, as f reads it
 abbrev pub next_by : {X : Type 0} → (List ℕ → Option X) → List (List ℕ) → Option (X × List (List ℕ))

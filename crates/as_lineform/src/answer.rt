@@ -1,8 +1,9 @@
 ghost use Rattle.std.specs.Prelude.{◌≡◌, ◌++◌, codes, decimal, OnOk, OnErr};
-ghost use Rattle.as_lineform.specs.Answer.{word_text, text_of, Grows};
+ghost use Rattle.as_words.specs.Grows.{Grows};
+ghost use Rattle.as_lineform.specs.Answer.{word_text, text_of};
 
 use as_base::{Answer, NoMemory, Word};
-use itoa::Buffer;
+use as_words::append_decimal;
 use std::alloc::AllocError;
 
 /// Appends the text of an answer, with its line feed. The one refusal is `NoMemory`, after which `out` is unchanged.
@@ -25,14 +26,14 @@ fn append_answer(a: &Answer, out: &mut Vec<u8>) -> Result<(), AllocError>
     ensures ok { OnOk result (out.new.items ≡ out.old.items ++ text_of a.now) }
     ensures err { OnErr result (Grows out.old.items out.new.items) }
 {
-    append_number(a.line, out)?;
+    append_decimal(a.line, out)?;
     out.extend_from_slice(b" ")?;
     append_word(a.word, out)?;
     out.extend_from_slice(b"\n")
 }
 
-/// Appends the text of a word, or some front of it.
-fn append_word(word: Word, out: &mut Vec<u8>) -> Result<(), AllocError>
+/// Appends the text of a word, as `later` or `syntax 3`. After want of memory `out` may have grown by a front of it.
+pub fn append_word(word: Word, out: &mut Vec<u8>) -> Result<(), AllocError>
     ensures ok { OnOk result (out.new.items ≡ out.old.items ++ word_text word) }
     ensures err { OnErr result (Grows out.old.items out.new.items) }
 {
@@ -60,9 +61,9 @@ fn append_event(event: &[u8], n: u64, at: u64, out: &mut Vec<u8>) -> Result<(), 
     ensures err { OnErr result (Grows out.old.items out.new.items) }
 {
     out.extend_from_slice(event)?;
-    append_number(n, out)?;
+    append_decimal(n, out)?;
     out.extend_from_slice(b" at ")?;
-    append_number(at, out)
+    append_decimal(at, out)
 }
 
 /// Appends where a query text is outside the grammar, or some front of it.
@@ -71,13 +72,5 @@ fn append_syntax(k: u32, out: &mut Vec<u8>) -> Result<(), AllocError>
     ensures err { OnErr result (Grows out.old.items out.new.items) }
 {
     out.extend_from_slice(b"syntax ")?;
-    append_number(u64::from(k), out)
-}
-
-/// Appends a number in decimal.
-fn append_number(n: u64, out: &mut Vec<u8>) -> Result<(), AllocError>
-    ensures ok { OnOk result (out.new.items ≡ out.old.items ++ decimal n) }
-    ensures err { OnErr result (out.new.items ≡ out.old.items) }
-{
-    out.extend_from_slice(Buffer::new().format(n).as_bytes())
+    append_decimal(u64::from(k), out)
 }

@@ -1,9 +1,9 @@
 ghost use Rattle.std.specs.Prelude.{◌≡◌, List, ℕ, [], ◌∷◌, ◌++◌, Option, Some, IfOk, IfSome, IsTrue, ◌↔◌, OnErr};
 ghost use Rattle.std.specs.Option.{option_to_list};
 ghost use Rattle.as_base.specs.Range.{InRange};
-ghost use Rattle.as_lineform.specs.Item.{IsCreation, IsTaken};
+ghost use Rattle.as_lineform.specs.Item.{IsCreation};
 ghost use Rattle.as_lineform.specs.Lines.{lines, items};
-ghost use Rattle.as_lineform.specs.Cutter.{HasRead, kept_more, items_in, item_of_kept, StepInRange, StepIsTaken};
+ghost use Rattle.as_lineform.specs.Cutter.{HasRead, kept_more, items_in, item_of_kept, StepInRange};
 
 use crate::item::{LINE_MAX, item_of};
 use as_base::{Cause, Item, NoMemory};
@@ -58,7 +58,6 @@ impl Lines {
         ensures reads { (bytes : List ℕ) → HasRead self.old bytes → IfOk result (λ step.
             HasRead self.new (bytes ++ byte ∷ []) × (lines (bytes ++ byte ∷ []) ≡ lines bytes ++ items_in step)) }
         ensures range { IfOk result StepInRange }
-        ensures taken { IfOk result StepIsTaken }
         ensures cause { OnErr result ((byte ≡ 10) × IsCreation (item_of_kept self.old)) }
         ensures err { OnErr result (self.new ≡ self.old) }
     {
@@ -77,7 +76,6 @@ impl Lines {
         ensures reads { (bytes : List ℕ) → HasRead self.old bytes → IfOk result (λ last.
             HasRead self.new [] × (items bytes ≡ lines bytes ++ option_to_list last)) }
         ensures range { IfOk result (λ last. IfSome last InRange) }
-        ensures taken { IfOk result (λ last. IfSome last IsTaken) }
         ensures cause { OnErr result (IsCreation (item_of_kept self.old)) }
         ensures err { OnErr result (self.new ≡ self.old) }
     {
@@ -100,11 +98,10 @@ impl Lines {
     fn item(&self) -> Result<Item, NoMemory>
         ensures item { IfOk result (λ item. item ≡ item_of_kept self.now) }
         ensures range { IfOk result InRange }
-        ensures taken { IfOk result IsTaken }
         ensures cause { OnErr result (IsCreation (item_of_kept self.now)) }
     {
         if self.is_long {
-            return Ok(Item::Bad(Cause::Later));
+            return Ok(Item::Bad(Cause::Long));
         }
         item_of(self.alloc, self.line.as_slice())
     }

@@ -1,9 +1,11 @@
-ghost use Rattle.std.specs.Prelude.{◌≡◌, IfOk, OnErr, unwrap_or};
+ghost use Rattle.std.specs.Prelude.{◌≡◌, ◌^◌, IfOk, OnErr, None, Some, MatchOption};
 ghost use Rattle.as_base.specs.Range.{InRange};
-ghost use Rattle.as_lineform.specs.Item.{given_of, time_of, item_of_words, item_of_line, IsCreation, IsTaken};
+ghost use Rattle.as_base.specs.declared.item.TheConstants.{FOREVER};
+ghost use Rattle.as_lineform.specs.Item.{given_of, alone_of, stream_of, item_of_stream, item_of_words, creation_of, item_of_line, IsCreation};
 
-use crate::words::Words;
-use as_base::{Cause, Given, Item, NoMemory, StreamId, Text};
+use crate::reading::{next_below, next_four, next_integer};
+use as_base::{Cause, FOREVER, Given, Item, NoMemory, StreamId, Text, is_words};
+use as_words::{LEAST, Words};
 use std::alloc::Global;
 
 /// How many bytes a line may have.
@@ -13,9 +15,9 @@ pub const LINE_MAX: usize = 4096;
 fn given(stream: StreamId, mut words: Words<'_>) -> Option<Given>
     ensures { result ≡ given_of stream words.entry }
 {
-    let time = words.next_time()?;
-    let key = words.next_integer()?;
-    let v = words.next_four()?;
+    let time = next_below(&mut words, FOREVER)?;
+    let key = next_integer(&mut words)?;
+    let v = next_four(&mut words)?;
     words.is_empty().then_some(Given {
         stream,
         time,
@@ -24,30 +26,67 @@ fn given(stream: StreamId, mut words: Words<'_>) -> Option<Given>
     })
 }
 
-/// The time, if one word is left, which spells it.
-fn time_alone(mut words: Words<'_>) -> Option<u64>
-    ensures { result ≡ time_of words.entry }
+/// The number below the limit, if one word is left, which spells it.
+fn alone(mut words: Words<'_>, limit: u64) -> Option<u64>
+    ensures { result ≡ alone_of limit words.entry }
 {
-    let time = words.next_time()?;
-    words.is_empty().then_some(time)
+    let number = next_below(&mut words, limit)?;
+    words.is_empty().then_some(number)
 }
 
-/// The record or the mark that the words say.
-fn said(mut words: Words<'_>) -> Option<Item>
-    ensures { unwrap_or result (Item.Bad Cause.Later) ≡ item_of_words words.entry }
+/// The stream of this name.
+fn stream_named(word: &[u8]) -> Option<StreamId>
+    ensures { result ≡ stream_of word.now }
 {
-    let form = words.next()?;
-    let stream = words.next()?;
-    if stream != b"a".as_slice() {
-        return None;
-    }
-    if form == b"rec".as_slice() {
-        given(StreamId::A, words).map(Item::Rec)
-    } else if form == b"mark".as_slice() {
-        time_alone(words).map(|time| Item::Mark(StreamId::A, time))
+    if word == b"a".as_slice() {
+        Some(StreamId::A)
+    } else if word == b"b".as_slice() {
+        Some(StreamId::B)
+    } else if word == b"c".as_slice() {
+        Some(StreamId::C)
+    } else if word == b"d".as_slice() {
+        Some(StreamId::D)
     } else {
         None
     }
+}
+
+/// What a line of this form says of the stream, if the words that are left are the form's.
+fn said_of(form: &[u8], stream: StreamId, words: Words<'_>) -> Option<Item>
+    ensures { result ≡ item_of_stream form.now words.entry stream }
+{
+    if form == b"rec".as_slice() {
+        given(stream, words).map(Item::Rec)
+    } else if form == b"mark".as_slice() {
+        alone(words, FOREVER).map(|time| Item::Mark(stream, time))
+    } else if form == b"end".as_slice() {
+        words.is_empty().then_some(Item::End(stream))
+    } else {
+        None
+    }
+}
+
+/// The item that the words say, if they are not a creation's.
+fn said(mut words: Words<'_>) -> Option<Item>
+    ensures { result ≡ item_of_words words.entry }
+{
+    let form = words.next()?;
+    if form == b"delete".as_slice() {
+        return alone(words, LEAST).map(Item::Delete);
+    }
+    let stream = stream_named(words.next()?)?;
+    said_of(form, stream, words)
+}
+
+/// The query text of a creation.
+fn creation(line: &[u8]) -> Option<&[u8]>
+    ensures { MatchOption result (creation_of line.now ≡ None) (λ text. creation_of line.now ≡ Some text.now) }
+{
+    if line == b"create".as_slice() {
+        return Some(&[]);
+    }
+    let text = line.strip_prefix(b"create ".as_slice())?;
+    is_words(text).then_some(text)
 }
 
 /// The item that a line says. A line in no form is `Bad`, so the one refusal is `NoMemory`, which comes only for a
@@ -55,15 +94,13 @@ fn said(mut words: Words<'_>) -> Option<Item>
 pub fn item_of(alloc: Global, line: &[u8]) -> Result<Item, NoMemory>
     ensures item { IfOk result (λ item. item ≡ item_of_line line.now) }
     ensures range { IfOk result InRange }
-    ensures taken { IfOk result IsTaken }
     ensures cause { OnErr result (IsCreation (item_of_line line.now)) }
 {
     if line.len() > LINE_MAX {
-        return Ok(Item::Bad(Cause::Later));
+        return Ok(Item::Bad(Cause::Long));
     }
-    if line == b"create select from a".as_slice() {
-        let text = b"select from a".to_vec(alloc)?;
-        return Ok(Item::Create(Text::from_vec(text)));
+    match creation(line) {
+        Some(text) => Ok(Item::Create(Text::from_vec(text.to_vec(alloc)?))),
+        None => Ok(said(Words::new(line)).unwrap_or(Item::Bad(Cause::Form))),
     }
-    Ok(said(Words::new(line)).unwrap_or(Item::Bad(Cause::Later)))
 }

@@ -4,12 +4,13 @@
 mod answer;
 mod cutter;
 mod item;
-mod number;
-mod words;
+mod reading;
+mod spelling;
 
-pub use answer::answer_text;
+pub use answer::{answer_text, append_word};
 pub use cutter::{Lines, Step};
 pub use item::{LINE_MAX, item_of};
+pub use spelling::{each_item_has_one_spelling, item_text, written_lines_are_read};
 
 #[cfg(test)]
 mod tests;

@@ -10,6 +10,7 @@ use Rattle.as_outside.specs.Log.{said, begins, puts, failures, say_failures, hel
 use Rattle.as_outside.specs.Outputs.{times, AreOutputs}
 use Rattle.as_outside.proofs.Log.{said-append, begins-append, puts-append, failures-append, say_failures-append, held-append, held_from-append, times-append, begins-cons, puts-cons, failures-cons, times-cons, EndsAtFailure-from_none}
 use Rattle.astream_top.specs.Setup.{Setup}
+use Rattle.astream_top.specs.Stage.{taken}
 use Rattle.astream_top.specs.Book.{Query, book, numbers}
 use Rattle.astream_top.specs.Answers.{answers_text}
 use Rattle.astream_top.specs.View.{text_of, text, view}
@@ -238,12 +239,12 @@ outputs-step c h h' log queries pieces text before unbroken adds =
 
 -- What is due for the items becomes what is due for the items after.
 pub due-step : (c : Setup) (h h' : List Item) (log : List Entry) (queries : List ℕ) (pieces : List Piece) (text : List ℕ)
-    → IsDue c h log → ((n : ℕ) → failures n log ≡ 0) → Adds c h h' queries pieces → answers_text c h' ≡ answers_text c h ++ text
+    → IsDue c h log → ((n : ℕ) → failures n log ≡ 0) → Adds c (taken c h) (taken c h') queries pieces → answers_text c h' ≡ answers_text c h ++ text
     → IsDue c h' (log ++ calls_of queries pieces text)
 due-step c h h' log queries pieces text before unbroken adds answers =
     record {
       answers = said-append log (calls_of queries pieces text) ∙ ap (λ t. t ++ said (calls_of queries pieces text)) before.answers
           ∙ ap (λ t. answers_text c h ++ t) (said-calls_of queries pieces text) ∙ sym answers;
       no_say_failed = omega (arith, say_failures-append log (calls_of queries pieces text), before.no_say_failed, say_failures-calls_of queries pieces text);
-      outputs = outputs-step c h h' log queries pieces text before.outputs unbroken adds;
+      outputs = outputs-step c (taken c h) (taken c h') log queries pieces text before.outputs unbroken adds;
     }

@@ -5,7 +5,9 @@ mod Numbers
 mod Books
 mod Marks
 pub mod Texts
+mod WordLaws
 mod Steps
+pub mod Stages
 pub mod Goes
 pub mod Due
 pub mod Processed

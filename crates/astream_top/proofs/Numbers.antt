@@ -10,7 +10,7 @@ use Rattle.as_base.specs.declared.answer.Piece.{Piece}
 use Rattle.as_base.specs.declared.item.Given.{Given}
 use Rattle.as_outside.specs.Outputs.{times}
 use Rattle.astream_top.specs.declared.session.Live.{Live}
-use Rattle.astream_top.specs.Kept.{rows_from, piece_of, pieces_of}
+use Rattle.astream_top.specs.Kept.{rows_for, piece_of, pieces_of}
 use Rattle.astream_top.specs.Outcome.{bytes_for}
 use Rattle.astream_top.proofs.Each.{All-by, All-push, All-append, cond_same}
 
@@ -175,10 +175,10 @@ pieces-none (q ∷ qs) (g ∷ gs) none = let many = eqb-true (length (g ∷ gs))
 
 -- one more query has its piece after those of the queries before it
 pub pieces-more : (qs : List Live) (gs : List Given) (i : ℕ) (d : Live) (pieces new : List Piece) (rows : List ℕ) → i < length qs
-    → new ≡ pieces ++ piece_of (get_or qs i d).n rows → pieces ≡ pieces_of (take i qs) gs → rows ≡ rows_from (get_or qs i d).from gs → new ≡ pieces_of (take (i + 1) qs) gs
+    → new ≡ pieces ++ piece_of (get_or qs i d).n rows → pieces ≡ pieces_of (take i qs) gs → rows ≡ rows_for (get_or qs i d) gs → new ≡ pieces_of (take (i + 1) qs) gs
 pieces-more qs gs i d pieces new rows within pushed before is =
     pushed
     ∙ ap₂ (λ l m. l ++ piece_of (get_or qs i d).n m) before is
-    ∙ ap (λ l. pieces_of (take i qs) gs ++ l) (sym (append-nil (piece_of (get_or qs i d).n (rows_from (get_or qs i d).from gs))))
-    ∙ sym (flat_map-append (λ (q : Live). piece_of q.n (rows_from q.from gs)) (take i qs) (get_or qs i d ∷ []))
+    ∙ ap (λ l. pieces_of (take i qs) gs ++ l) (sym (append-nil (piece_of (get_or qs i d).n (rows_for (get_or qs i d) gs))))
+    ∙ sym (flat_map-append (λ (q : Live). piece_of q.n (rows_for q gs)) (take i qs) (get_or qs i d ∷ []))
     ∙ ap (λ l. pieces_of l gs) (sym (take_more qs i d within))

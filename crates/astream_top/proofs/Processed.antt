@@ -8,6 +8,7 @@ use Rattle.as_outside.specs.Log.{said}
 use Rattle.as_outside.proofs.Log.{said-append}
 use Rattle.astream_top.specs.declared.processor.Processor.{Processor}
 use Rattle.astream_top.specs.Setup.{run_setup}
+use Rattle.astream_top.specs.Stage.{taken}
 use Rattle.astream_top.specs.Answers.{answers_text, answer_text_to, done_text, text_of_option}
 use Rattle.astream_top.specs.Prompt.{shut}
 use Rattle.astream_top.specs.Outcome.{created, Adds}
@@ -30,12 +31,12 @@ processed-step p p' h calls more x fed before prepared is =
     }
 
 -- the calls of the end were made
-pub finished-step : (p : Processor) (h : List Item) (calls more : List Entry) (pieces : List Piece) → HasProcessed p h calls → Adds run_setup h (shut run_setup h) [] pieces
+pub finished-step : (p : Processor) (h : List Item) (calls more : List Entry) (pieces : List Piece) → HasProcessed p h calls → Adds run_setup (taken run_setup h) (shut run_setup (taken run_setup h)) [] pieces
     → more ≡ calls_of [] pieces (done_text p.lines) → IsFinished p.lines h (calls ++ more)
 finished-step p h calls more pieces before adds is = rw is (record {
   counted = before.counted;
   answers = said-append calls _ ∙ ap (λ t. t ++ said (calls_of [] pieces (done_text p.lines))) before.due.answers
       ∙ ap (λ t. answers_text run_setup h ++ t) (said-calls_of [] pieces (done_text p.lines));
-  outputs = outputs-step run_setup h (shut run_setup h) calls [] pieces (done_text p.lines) before.due.outputs before.unbroken adds;
+  outputs = outputs-step run_setup (taken run_setup h) (shut run_setup (taken run_setup h)) calls [] pieces (done_text p.lines) before.due.outputs before.unbroken adds;
   unbroken = unbroken-step calls [] pieces (done_text p.lines) before.unbroken;
 })

@@ -1,5 +1,5 @@
 -- The text of a query, where the accepted records stand in order.
-use Rattle.std.proofs.Common.{◌≡◌, ℕ, ◌+◌, ◌<◌, ◌&&◌, ◌||◌, nat_lt, nat_le, eqb, Bool, true, false, cond, List, [], ◌∷◌, ◌++◌, map, refl, sym, ap, ◌∙◌, add-one, arith}
+use Rattle.std.proofs.Common.{◌≡◌, ℕ, ◌+◌, ◌<◌, ◌&&◌, ◌||◌, nat_lt, nat_le, eqb, Bool, true, false, true≢false, cond, List, [], ◌∷◌, ◌++◌, map, refl, sym, ap, ◌∙◌, add-one, arith}
 use Rattle.std.specs.List.{filter, flat_map, AllByRecursion}
 use Rattle.std.proofs.lemmas.Bool.{lt-ltb}
 use Rattle.std.proofs.lemmas.Bool.Decides.{nat_tests}
@@ -9,12 +9,13 @@ use Rattle.as_base.specs.declared.item.Given.{Given}
 use Rattle.as_base.specs.declared.item.Record.{Record}
 use Rattle.as_base.specs.declared.item.Item.{Item}
 use Rattle.as_base.specs.Range.{place_of}
+use Rattle.as_base.specs.Query.{holds_all}
 use Rattle.astream_top.specs.declared.session.Live.{Live}
 use Rattle.astream_top.specs.Setup.{run_setup}
 use Rattle.astream_top.specs.Acceptance.{watermark}
 use Rattle.astream_top.specs.View.{records, view, is_mine, comes_before, put_in_order, in_order, row_text, text, text_of}
-use Rattle.astream_top.specs.Kept.{rows_from, below}
-use Rattle.astream_top.specs.Session.{query_of, InOrder, accepted}
+use Rattle.astream_top.specs.Kept.{wants, row_for, rows_for, below}
+use Rattle.astream_top.specs.Session.{query_of, ReadsA, InOrder, accepted}
 use Rattle.astream_top.proofs.Each.{All-by, All-push, All-filter, All-every, flat_map-map, flat_map-same, flat_map-filter}
 use Rattle.astream_top.proofs.Numbers.{of_number}
 use Rattle.as_outside.specs.Outputs.{times}
@@ -54,26 +55,28 @@ cond_swap true false x y = refl
 cond_swap false true x y = refl
 cond_swap false false x y = refl
 
--- where the record is of stream a and within time, it is the query's from the query's time on
-is_mine-from : (q : Live) (r : Record) → r.given.stream ≡ A → r.given.time < FOREVER → is_mine (query_of q) A r ≡ nat_le q.from r.given.time
-is_mine-from q r a within =
-    ap (λ s. eqb (place_of s) 0 && nat_le q.from r.given.time && nat_lt r.given.time FOREVER) a
-    ∙ ap (λ b. nat_le q.from r.given.time && b) (lt-ltb r.given.time FOREVER within)
-    ∙ and_true (nat_le q.from r.given.time)
+-- where the record is of stream a and within time, it is the query's just if the query wants it
+is_mine-wanted : (q : Live) (r : Record) → q.plan.left ≡ A → r.given.stream ≡ A → r.given.time < FOREVER → is_mine (query_of q) A r ≡ wants q r.given
+is_mine-wanted q r left a within =
+    ap (λ s. eqb (place_of s) 0 && eqb (place_of r.given.stream) 0 && nat_le q.from r.given.time && nat_lt r.given.time FOREVER && holds_all q.plan.left_bounds r.given) left
+    ∙ ap (λ s. eqb (place_of s) 0 && nat_le q.from r.given.time && nat_lt r.given.time FOREVER && holds_all q.plan.left_bounds r.given) a
+    ∙ within_and (nat_le q.from r.given.time) (nat_lt r.given.time FOREVER) (holds_all q.plan.left_bounds r.given) (lt-ltb r.given.time FOREVER within)
   where
-    and_true : (b : Bool) → (b && true) ≡ b
-    and_true true = refl
-    and_true false = refl
+    within_and : (a b c : Bool) → b ≡ true → (a && b && c) ≡ (a && c)
+    within_and true true c e = refl
+    within_and false true c e = refl
+    within_and a false c e = absurd (true≢false (sym e))
 
 -- the record is of stream a and has a time
 abbrev pub IsTimely : Record → Type 0
 IsTimely r = (r.given.stream ≡ A) × (r.given.time < FOREVER)
 
 -- the text of a living query: its rows of the accepted records below the watermark
-pub text-is : (h : List Item) (q : Live) → InOrder (records run_setup h) → AllByRecursion IsTimely (records run_setup h)
-    → text (view run_setup h) (query_of q) ≡ rows_from q.from (below (watermark run_setup h A) (accepted h))
-text-is h q ordered within =
-    ap (λ l. flat_map row (filter passed l)) (in_order-same (filter mine rs) (InOrder-filter mine rs ordered))
+pub text-is : (h : List Item) (q : Live) → q.plan.left ≡ A → InOrder (records run_setup h) → AllByRecursion IsTimely (records run_setup h)
+    → text (view run_setup h) (query_of q) ≡ rows_for q (below (watermark run_setup h A) (accepted h))
+text-is h q left ordered within =
+    ap (λ s. flat_map row (filter (λ (r : Record). nat_le (r.given.time + 1) (watermark run_setup h s)) (in_order (filter (is_mine (query_of q) s) rs)))) left
+    ∙ ap (λ l. flat_map row (filter passed l)) (in_order-same (filter mine rs) (InOrder-filter mine rs ordered))
     ∙ flat_map-filter row passed (filter mine rs)
     ∙ flat_map-filter (λ r. cond (passed r) (row r) []) mine rs
     ∙ flat_map-same (λ r. cond (mine r) (cond (passed r) (row r) []) []) (λ r. cond (early r.given) (wanted r.given) []) rs (All-by _ _ same rs within)
@@ -99,22 +102,22 @@ text-is h q ordered within =
     early g = nat_lt g.time w
 
     wanted : Given → List ℕ
-    wanted g = cond (nat_le q.from g.time) (row_text g) []
+    wanted g = row_for q g
 
     same : (r : Record) → IsTimely r → cond (mine r) (cond (passed r) (row r) []) [] ≡ cond (early r.given) (wanted r.given) []
     same r p =
-        ap (λ b. cond b (cond (passed r) (row r) []) []) (is_mine-from q r p.0 p.1)
-        ∙ ap (λ t. cond (nat_le q.from r.given.time) (cond (nat_le t w) (row r) []) []) (add-one r.given.time)
-        ∙ cond_swap (nat_le q.from r.given.time) (early r.given) (row r) []
+        ap (λ b. cond b (cond (passed r) (row r) []) []) (is_mine-wanted q r left p.0 p.1)
+        ∙ ap (λ t. cond (wants q r.given) (cond (nat_le t w) (row r) []) []) (add-one r.given.time)
+        ∙ cond_swap (wants q r.given) (early r.given) (row r) []
 
 -- the text of output n, where the watermark is w
-pub text_of-is : (h : List Item) (w : ℕ) (queries : List Live) (n : ℕ) → book run_setup h ≡ map query_of queries → InOrder (records run_setup h) → AllByRecursion IsTimely (records run_setup h) → watermark run_setup h A ≡ w
-    → text_of run_setup h n ≡ of_number n (λ (q : Live). rows_from q.from (below w (accepted h))) queries
-text_of-is h w queries n living ordered within is =
+pub text_of-is : (h : List Item) (w : ℕ) (queries : List Live) (n : ℕ) → book run_setup h ≡ map query_of queries → AllByRecursion ReadsA queries → InOrder (records run_setup h) → AllByRecursion IsTimely (records run_setup h) → watermark run_setup h A ≡ w
+    → text_of run_setup h n ≡ of_number n (λ (q : Live). rows_for q (below w (accepted h))) queries
+text_of-is h w queries n living selects ordered within is =
     ap (flat_map (λ (q : Query). cond (eqb q.n n) (text (view run_setup h) q) [])) living
     ∙ flat_map-map (λ (q : Query). cond (eqb q.n n) (text (view run_setup h) q) []) query_of queries
-    ∙ flat_map-same (λ (q : Live). cond (eqb q.n n) (text (view run_setup h) (query_of q)) []) (λ (q : Live). cond (eqb q.n n) (rows_from q.from (below w (accepted h))) []) queries
-    (All-every (λ (q : Live). cond (eqb q.n n) (text (view run_setup h) (query_of q)) [] ≡ cond (eqb q.n n) (rows_from q.from (below w (accepted h))) []) (λ q. ap (λ l. cond (eqb q.n n) l []) (text-is h q ordered within ∙ ap (λ v. rows_from q.from (below v (accepted h))) is)) queries)
+    ∙ flat_map-same (λ (q : Live). cond (eqb q.n n) (text (view run_setup h) (query_of q)) []) (λ (q : Live). cond (eqb q.n n) (rows_for q (below w (accepted h))) []) queries
+    (All-by ReadsA (λ (q : Live). cond (eqb q.n n) (text (view run_setup h) (query_of q)) [] ≡ cond (eqb q.n n) (rows_for q (below w (accepted h))) []) (λ q left. ap (λ l. cond (eqb q.n n) l []) (text-is h q left ordered within ∙ ap (λ v. rows_for q (below v (accepted h))) is)) queries selects)
 
 -- an output that was never created has no text
 text-none : (n : ℕ) (f : Query → List ℕ) (qs : List Query) → times n (map (λ (q : Query). q.n) qs) ≡ 0 → flat_map (λ (q : Query). cond (eqb q.n n) (f q) []) qs ≡ []

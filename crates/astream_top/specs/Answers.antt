@@ -1,11 +1,12 @@
-use Rattle.std.specs.Prelude.{ℕ, ◌+◌, Option, Some, None, List, [], ◌∷◌, ◌++◌, length, codes, decimal}
+use Rattle.std.specs.Prelude.{ℕ, ◌+◌, if◌then◌else◌, Option, Some, None, List, [], ◌∷◌, ◌++◌, length, codes, decimal}
 use Rattle.as_base.specs.declared.item.Item.{Item}
 use Rattle.as_base.specs.declared.item.Item.TheVariants.{Rec, Mark, End, Create, Delete, Bad}
 use Rattle.as_base.specs.declared.answer.Word.{Word}
-use Rattle.as_base.specs.declared.answer.Word.TheVariants.{Created, Deleted}
+use Rattle.as_base.specs.declared.answer.Word.TheVariants.{Created, Deleted, Later}
 use Rattle.as_base.specs.declared.answer.Answer.{Answer}
 use Rattle.as_lineform.specs.Answer.{text_of}
 use Rattle.astream_top.specs.Setup.{Setup}
+use Rattle.astream_top.specs.Stage.{is_built, taken}
 use Rattle.astream_top.specs.Acceptance.{changelog_time}
 use Rattle.astream_top.specs.Book.{book, refusal}
 
@@ -32,9 +33,13 @@ abbrev pub answered : List Item → Option Word → Option Answer
 answered h None = None
 answered h (Some w) = Some (record { line = length h + 1; word = w })
 
--- The answer to an item after the items `h`: its refusal, or the word of its acceptance, or none.
+-- The answer by the rule to an item after the items `h`: its refusal, or the word of its acceptance, or none.
+abbrev pub answer_by_rule : Setup → List Item → Item → Option Answer
+answer_by_rule c h x = answered h (or_else (refusal c h x) (acceptance_word c h x))
+
+-- The answer to an item after the items `h`: `later` where it isn't built, else by the rule.
 abbrev pub answer_to : Setup → List Item → Item → Option Answer
-answer_to c h x = answered h (or_else (refusal c h x) (acceptance_word c h x))
+answer_to c h x = if is_built c x then answer_by_rule c (taken c h) x else answered h (Some Later)
 
 abbrev pub text_of_option : Option Answer → List ℕ
 text_of_option None = []

@@ -4,14 +4,15 @@ use Rattle.std.specs.List.{list_any}
 use Rattle.as_base.specs.declared.item.TheConstants.{FOREVER}
 use Rattle.as_base.specs.declared.item.StreamId.{StreamId}
 use Rattle.as_base.specs.declared.item.Cause.{Cause}
-use Rattle.as_base.specs.declared.item.Cause.TheVariants.{Long, Form, Later}
+use Rattle.as_base.specs.declared.item.Cause.TheVariants.{Long, Form}
 use Rattle.as_base.specs.declared.item.Item.{Item}
 use Rattle.as_base.specs.declared.item.Item.TheVariants.{Rec, Mark, End, Create, Delete, Bad}
 use Rattle.as_base.specs.declared.answer.Word.{Word}
 use Rattle.as_base.specs.declared.answer.Word.TheVariants as word
 use Rattle.astream_top.specs.Setup.{Setup, is_configured}
 use Rattle.astream_top.specs.Acceptance.{front, top_mark, has_ended, changelog_time}
-use Rattle.astream_top.specs.Plan.{Plan, plan_of}
+use Rattle.as_base.specs.declared.query.Plan.{Plan}
+use Rattle.astream_top.specs.Plan.{plan_of, built, unplanned}
 
 -- A query of the book: its number, its plan, its life from a time up to but not including another, and whether it lives.
 pub record Query : Type 0 where
@@ -37,7 +38,7 @@ closed n at q = if is_live n q then record { n = q.n; plan = q.plan; from = q.fr
 
 -- the book after one more item, where `before` came before it
 abbrev pub book_after : Setup → List Item → List Query → Item → List Query
-book_after c before book (Create text) = if has_slot c book then opened book (plan_of text) (changelog_time c before) else book
+book_after c before book (Create text) = if has_slot c book then opened book (built (plan_of text)) (changelog_time c before) else book
 book_after c before book (Delete n) = map (closed n (changelog_time c before)) book
 book_after c before book (Rec g) = book
 book_after c before book (Mark s t) = book
@@ -66,14 +67,18 @@ stream_refusal c h s behind last =
 abbrev pub refusal_of_cause : Cause → Word
 refusal_of_cause Long = word.Long
 refusal_of_cause Form = word.Form
-refusal_of_cause Later = word.Later
+
+-- why a creation is refused: by its text, or since no slot is free
+abbrev pub creation_refusal : Option Word → Bool → Option Word
+creation_refusal (Some w) free = Some w
+creation_refusal None free = if free then None else Some word.Full
 
 -- The word that an item is refused by after the items `h`, if it is refused.
 abbrev pub refusal : Setup → List Item → Item → Option Word
 refusal c h (Rec g) = stream_refusal c h g.stream (nat_lt g.time (front c h g.stream)) word.Late
 refusal c h (Mark s t) = stream_refusal c h s (nat_lt t (top_mark c h s)) word.Back
 refusal c h (End s) = stream_refusal c h s false word.Ended
-refusal c h (Create text) = if is_none (plan_of text) then Some word.Later else (if has_slot c (book c h) then None else Some word.Full)
+refusal c h (Create text) = creation_refusal (unplanned (plan_of text)) (has_slot c (book c h))
 refusal c h (Delete n) = if list_any (is_live n) (book c h) then None else Some word.Unknown
 refusal c h (Bad cause) = Some (refusal_of_cause cause)
 

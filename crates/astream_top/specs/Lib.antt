@@ -1,6 +1,8 @@
 pub mod Setup
+pub mod Stage
 pub mod Acceptance
 pub mod Plan
+pub mod Planning
 pub mod Book
 pub mod Answers
 pub mod View
@@ -16,4 +18,5 @@ pub mod Processor
 pub mod Run
 pub mod Pull
 pub mod Words
+pub mod Explain
 pub mod Ended

@@ -10,8 +10,9 @@ use Rattle.as_base.specs.declared.answer.Piece.{Piece}
 use Rattle.as_base.specs.declared.answer.Fed.{Fed}
 use Rattle.as_outside.specs.Outputs.{times}
 use Rattle.astream_top.specs.Setup.{Setup}
+use Rattle.astream_top.specs.Stage.{taken}
 use Rattle.astream_top.specs.Book.{numbers}
-use Rattle.astream_top.specs.Answers.{answer_to}
+use Rattle.astream_top.specs.Answers.{answer_by_rule, answer_to}
 use Rattle.astream_top.specs.View.{text_of}
 
 -- the bytes that the pieces have for output n
@@ -34,10 +35,15 @@ pub record Adds (c : Setup) (h h' : List Item) (queries : List ℕ) (pieces : Li
   pub text : (n : ℕ) → text_of c h' n ≡ text_of c h n ++ bytes_for n pieces
   pub known : AllByRecursion (λ (p : Piece). 0 < times p.n (numbers c h')) pieces
 
--- What an item brings about after the items h: its answer by the rule, and the text that it makes due.
+-- What an item brings about by the rule after the items h: its answer, and the text that it makes due.
+pub record IsStep (c : Setup) (h : List Item) (x : Item) (fed : Fed) : Type 0 where
+  pub answer : fed.answer ≡ answer_by_rule c h x
+  pub adds : Adds c h (h ++ x ∷ []) (created fed.answer) fed.pieces
+
+-- What an item brings about after the items h, of which some may not be built.
 pub record IsFed (c : Setup) (h : List Item) (x : Item) (fed : Fed) : Type 0 where
   pub answer : fed.answer ≡ answer_to c h x
-  pub adds : Adds c h (h ++ x ∷ []) (created fed.answer) fed.pieces
+  pub adds : Adds c (taken c h) (taken c (h ++ x ∷ [])) (created fed.answer) fed.pieces
 
 -- pieces stand by rising query number, and none is empty
 pub record ArePieces (pieces : List Piece) : Type 0 where

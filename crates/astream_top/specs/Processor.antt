@@ -7,6 +7,7 @@ use Rattle.as_outside.specs.Log.{said, failures}
 use Rattle.as_outside.specs.Outputs.{AreOutputs}
 use Rattle.astream_top.specs.declared.processor.Processor.{Processor}
 use Rattle.astream_top.specs.Setup.{run_setup}
+use Rattle.astream_top.specs.Stage.{taken}
 use Rattle.astream_top.specs.Book.{numbers}
 use Rattle.astream_top.specs.Answers.{answers_text, done_text, text_of_option}
 use Rattle.astream_top.specs.View.{text_of}
@@ -32,5 +33,5 @@ pub record HasPrepared (p : Processor) (h : List Item) (x : Item) (fed : Fed) : 
 pub record IsFinished (count : ℕ) (h : List Item) (calls : List Entry) : Type 0 where
   pub counted : count ≡ length h
   pub answers : said calls ≡ answers_text run_setup h ++ done_text count
-  pub outputs : AreOutputs (numbers run_setup (shut run_setup h)) (text_of run_setup (shut run_setup h)) calls
+  pub outputs : AreOutputs (numbers run_setup (shut run_setup (taken run_setup h))) (text_of run_setup (shut run_setup (taken run_setup h))) calls
   pub unbroken : (n : ℕ) → failures n calls ≡ 0

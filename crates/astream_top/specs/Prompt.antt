@@ -9,6 +9,7 @@ use Rattle.as_outside.specs.Log.{pulled, said, is_pull, say_failures}
 use Rattle.as_outside.specs.Outputs.{AreOutputs}
 use Rattle.as_lineform.specs.Lines.{lines}
 use Rattle.astream_top.specs.Setup.{Setup, is_configured}
+use Rattle.astream_top.specs.Stage.{taken}
 use Rattle.astream_top.specs.Acceptance.{has_ended}
 use Rattle.astream_top.specs.Book.{numbers}
 use Rattle.astream_top.specs.Answers.{answers_text}
@@ -18,7 +19,7 @@ use Rattle.astream_top.specs.View.{text_of}
 pub record IsDue (c : Setup) (h : List Item) (log : List Entry) : Type 0 where
   pub answers : said log ≡ answers_text c h
   pub no_say_failed : say_failures log ≡ 0
-  pub outputs : AreOutputs (numbers c h) (text_of c h) log
+  pub outputs : AreOutputs (numbers c (taken c h)) (text_of c (taken c h)) log
 
 abbrev pub PromptFrom : Setup → List Entry → List Entry → Type 0
 PromptFrom c before [] = Unit {0}

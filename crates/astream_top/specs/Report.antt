@@ -6,6 +6,7 @@ use Rattle.as_outside.specs.Log.{pulled, said}
 use Rattle.as_outside.specs.Outputs.{AreOutputs}
 use Rattle.as_lineform.specs.Lines.{lines, items}
 use Rattle.astream_top.specs.Setup.{Setup}
+use Rattle.astream_top.specs.Stage.{taken}
 use Rattle.astream_top.specs.Book.{numbers}
 use Rattle.astream_top.specs.Answers.{answers_text, done_text}
 use Rattle.astream_top.specs.View.{text_of}
@@ -23,7 +24,7 @@ pub record IsDone (c : Setup) (limit count : ℕ) (calls : List Entry) : Type 0 
   pub fits : length (pulled calls) ≤ limit
   pub all_lines : count ≡ length (items (pulled calls))
   pub said : said calls ≡ answers_text c (items (pulled calls)) ++ done_text count
-  pub outputs : AreOutputs (numbers c (shut c (items (pulled calls)))) (text_of c (shut c (items (pulled calls)))) calls
+  pub outputs : AreOutputs (numbers c (shut c (taken c (items (pulled calls))))) (text_of c (shut c (taken c (items (pulled calls))))) calls
   pub faultless : IsFaultless calls
 
 -- The byte after the limit was pulled: all that is due for the lines within the limit is out.

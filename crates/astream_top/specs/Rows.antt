@@ -1,8 +1,9 @@
 -- Worked inputs, evaluated on the definitions alone.
-use Rattle.std.specs.Prelude.{ℕ, ◌≡◌, refl, replicate, List, [], ◌++◌, codes}
+use Rattle.std.specs.Prelude.{ℕ, ◌≡◌, refl, replicate, List, [], ◌∷◌, ◌++◌, codes}
 use Rattle.std.specs.Fmt.{digits}
 use Rattle.as_lineform.specs.Lines.{items}
 use Rattle.astream_top.specs.Setup.{run_setup}
+use Rattle.astream_top.specs.Stage.{taken}
 use Rattle.astream_top.specs.Answers.{answers_text, done_text}
 use Rattle.astream_top.specs.View.{text_of}
 use Rattle.astream_top.specs.Prompt.{shut}
@@ -12,10 +13,10 @@ abbrev answered : List ℕ → List ℕ
 answered bytes = answers_text run_setup (items bytes)
 
 abbrev held_at : ℕ → List ℕ → List ℕ
-held_at n bytes = text_of run_setup (items bytes) n
+held_at n bytes = text_of run_setup (taken run_setup (items bytes)) n
 
 abbrev held_in_the_end : ℕ → List ℕ → List ℕ
-held_in_the_end n bytes = text_of run_setup (shut run_setup (items bytes)) n
+held_in_the_end n bytes = text_of run_setup (shut run_setup (taken run_setup (items bytes))) n
 
 abbrev passed_input : List ℕ
 passed_input = codes "create select from a\nrec a 5 1 10 0 0 0\nmark a 6\n"
@@ -58,11 +59,11 @@ pub unended_line : answered (codes "mark a 5\nmark a 4") ≡ codes "2 back\n"
 unfolding digits
 unended_line = refl
 
-pub long_line : answered (replicate 4097 120 ++ codes "\nmark a 1") ≡ codes "1 later\n"
+pub long_line : answered (replicate 4097 120 ++ codes "\nmark a 1") ≡ codes "1 long\n"
 unfolding digits
 long_line = refl
 
-pub longest_line : answered (replicate 4096 120 ++ codes "\nmark a 1") ≡ codes "1 later\n"
+pub longest_line : answered (replicate 4096 120 ++ codes "\nmark a 1") ≡ codes "1 form\n"
 unfolding digits
 longest_line = refl
 
@@ -84,3 +85,36 @@ second_of_three_in_the_end = refl
 pub third_of_three_in_the_end : held_in_the_end 3 three_queries ≡ codes "3 7 4 0 0 -5\n"
 unfolding digits
 third_of_three_in_the_end = refl
+
+-- four lines that are refused: too long, in bytes that no word has, empty; and one without a line feed that is taken
+pub malformed_lines : answered (replicate 5000 120 ++ 10 ∷ 195 ∷ 169 ∷ codes "\n\nmark a 1") ≡ codes "1 long\n2 form\n3 form\n"
+unfolding digits
+malformed_lines = refl
+
+-- what is yet to be built is answered `later` before any other refusal, and ends and deletes nothing
+abbrev unbuilt_input : List ℕ
+unbuilt_input = codes "create select from a\nend a\ndelete 1\ndelete 7\nrec a 3 1 0 0 0 0\nrec b 2 1 0 0 0 0\nmark c 9\ncreate select from b\ncreate select from a\nmark a 4\n"
+
+pub unbuilt_answers : answered unbuilt_input ≡ codes "1 created 1 at 0\n2 later\n3 later\n4 later\n6 later\n7 later\n8 later\n9 created 2 at 4\n"
+unfolding digits
+unbuilt_answers = refl
+
+pub unbuilt_output : held_at 1 unbuilt_input ≡ codes "3 1 0 0 0 0\n"
+unfolding digits
+unbuilt_output = refl
+
+pub unbuilt_output_in_the_end : held_in_the_end 2 unbuilt_input ≡ []
+unfolding digits
+unbuilt_output_in_the_end = refl
+
+-- texts in each order of refusal, and a selection with a bound
+abbrev texts_input : List ℕ
+texts_input = codes "create select form a\ncreate join a a tumble 0\ncreate count by all from a tumble 0\ncreate\ncreate select from d\ncreate select from a where v1 > 4\nrec a 1 1 5 0 0 0\nrec a 2 1 4 0 0 0\nmark a 3\n"
+
+pub texts_answers : answered texts_input ≡ codes "1 syntax 2\n2 twin\n3 window\n4 syntax 1\n5 later\n6 created 1 at 0\n"
+unfolding digits
+texts_answers = refl
+
+pub bounded_output : held_at 1 texts_input ≡ codes "1 1 5 0 0 0\n"
+unfolding digits
+bounded_output = refl

@@ -9,14 +9,15 @@ use Rattle.as_base.specs.declared.item.Item.{Item}
 use Rattle.astream_top.specs.declared.session.Live.{Live}
 use Rattle.astream_top.specs.declared.session.Session.{Session}
 use Rattle.astream_top.specs.Setup.{run_setup}
+use Rattle.astream_top.specs.Stage.{taken}
 use Rattle.astream_top.specs.Acceptance.{front, top_mark, has_ended, changelog_time}
 use Rattle.astream_top.specs.Book.{Query, book}
 use Rattle.astream_top.specs.View.{records, comes_before}
-use Rattle.astream_top.specs.Kept.{rows_from, below, NeverFalls}
+use Rattle.astream_top.specs.Kept.{rows_for, below, NeverFalls}
 
 -- the query of the book that a living one is
 abbrev pub query_of : Live → Query
-query_of q = record { n = q.n; plan = record { left = A }; from = q.from; to = FOREVER; live = true }
+query_of q = record { n = q.n; plan = q.plan; from = q.from; to = FOREVER; live = true }
 
 -- each record comes before all later ones
 abbrev pub InOrder : List Record → Type 0
@@ -41,7 +42,11 @@ pub record IsPast (lines front changelog : ℕ) (r : Record) : Type 0 where
 -- the rows of a query of the records below any mark from this one on are those below this one, and then those of the kept
 abbrev pub Sees : List Given → ℕ → List Given → Live → Type 0
 Sees all mark kept q = (w : ℕ) → mark ≤ w →
-    rows_from q.from (below w all) ≡ rows_from q.from (below mark all) ++ rows_from q.from (below w kept)
+    rows_for q (below w all) ≡ rows_for q (below mark all) ++ rows_for q (below w kept)
+
+-- the query reads stream a
+abbrev pub ReadsA : Live → Type 0
+ReadsA q = q.plan.left ≡ A
 
 -- The front and the mark of stream a, which has not ended, and the changelog time.
 pub record Clock (h : List Item) (top mark changelog : ℕ) : Type 0 where
@@ -63,7 +68,12 @@ pub record Stands (h : List Item) (count top mark changelog : ℕ) (queries : Li
   pub reached : AllByRecursion (IsReached top changelog) kept
   pub rising : NeverFalls kept
   pub sees : AllByRecursion (Sees (accepted h) mark kept) queries
+  pub selects : AllByRecursion ReadsA queries
+
+-- the session has taken these items, all of which are built
+abbrev pub StandsAt : Session → List Item → Type 0
+StandsAt s h = Stands h s.items s.front s.mark s.changelog_time s.queries.items s.pending.items
 
 -- the session has taken these items
 abbrev pub StandsFor : Session → List Item → Type 0
-StandsFor s h = Stands h s.items s.front s.mark s.changelog_time s.queries.items s.pending.items
+StandsFor s h = StandsAt s (taken run_setup h)

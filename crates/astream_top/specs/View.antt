@@ -8,6 +8,7 @@ use Rattle.as_base.specs.declared.item.Record.{Record}
 use Rattle.as_base.specs.declared.item.Item.{Item}
 use Rattle.as_base.specs.declared.item.Item.TheVariants.{Rec, Mark, End, Create, Delete, Bad}
 use Rattle.as_base.specs.Range.{place_of}
+use Rattle.as_base.specs.Query.{holds_all}
 use Rattle.astream_top.specs.Setup.{Setup}
 use Rattle.astream_top.specs.Acceptance.{watermark}
 use Rattle.astream_top.specs.Plan.{reads}
@@ -36,9 +37,11 @@ pub record View : Type 0 where
 abbrev pub view : Setup → List Item → View
 view c h = record { queries = book c h; records = records c h; watermark = watermark c h }
 
--- the record is of the stream, and its time lies in the query's life
+-- the record is of the stream, its time lies in the query's life, and it is within the query's bounds
 abbrev pub is_mine : Query → StreamId → Record → Bool
-is_mine q s r = reads q.plan s && place_of r.given.stream == place_of s && nat_le q.from r.given.time && nat_lt r.given.time q.to
+is_mine q s r =
+    reads q.plan s && place_of r.given.stream == place_of s && nat_le q.from r.given.time && nat_lt r.given.time q.to
+    && holds_all q.plan.left_bounds r.given
 
 -- the records of the stream that belong to the query
 abbrev pub mine : View → Query → StreamId → List Record

@@ -2,13 +2,16 @@
 #![tactic(auto)]
 
 mod deliver;
+mod explain;
 mod pending;
+mod planning;
 mod processor;
 mod rows;
 mod run;
 mod session;
 mod stop;
 mod top;
+mod words;
 
 pub use session::{SLOTS, STREAMS};
 pub use top::{MAX_BYTES, astream};

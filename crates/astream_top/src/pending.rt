@@ -1,16 +1,23 @@
 ghost use Rattle.std.specs.Prelude.{◌≡◌, IfOk, OnOk};
-ghost use Rattle.astream_top.specs.Kept.{kept_with, IsCut};
+ghost use Rattle.astream_top.specs.Kept.{is_wanted, kept_with, IsCut};
 
 use crate::session::Live;
 use as_base::{Given, NoMemory};
 use std::alloc::Global;
 use std::collections::VecDeque;
 
-/// Keeps a record where some query lives: no query that is created later wants it. The one refusal is `NoMemory`.
+// Some query wants the record.
+fn is_wanted(queries: &[Live], given: &Given) -> bool
+    ensures { result ≡ is_wanted queries.now given.now }
+{
+    queries.iter().any(|query| query.wants(given))
+}
+
+/// Keeps a record that some query wants: no query that is created later does. The one refusal is `NoMemory`.
 pub fn keep(queries: &[Live], pending: &mut VecDeque<Given>, given: &Given) -> Result<(), NoMemory>
     ensures { OnOk result (pending.new.items ≡ kept_with queries.now pending.old.items given.now) }
 {
-    if queries.is_empty() {
+    if !is_wanted(queries, given) {
         return Ok(());
     }
     pending.push_back(*given)?;

@@ -3,7 +3,6 @@ ghost use Rattle.as_base.specs.declared.item.Item.{Item};
 ghost use Rattle.as_base.specs.Range.{InRange};
 ghost use Rattle.as_outside.specs.declared.entry.Entry.{Entry};
 ghost use Rattle.as_outside.specs.Shelf.{Since};
-ghost use Rattle.as_lineform.specs.Item.{IsTaken};
 ghost use Rattle.astream_top.specs.Answers.{done_text};
 ghost use Rattle.astream_top.specs.Stop.{Goes, IsCounted};
 
@@ -13,7 +12,7 @@ use crate::stop::Stop;
 use as_base::{Fed, Item, NoMemory};
 use as_lineform::answer_text;
 use as_outside::Desk;
-use itoa::Buffer;
+use as_words::append_spaced_decimal;
 use std::alloc::Global;
 
 /// Takes items, and makes the calls on a desk that they bring about.
@@ -43,7 +42,6 @@ impl Processor {
 
     // Takes an item and makes the text of its answer, before any call.
     fn prepare(&mut self, item: &Item) -> Result<Fed, NoMemory>
-        requires taken { IsTaken item.now }
         requires range { InRange item.now }
         requires few { self.old.session.items < 2 ^ 62 }
         ensures prepared { (h : List Item) → StandsFor self.old.session h → IfOk result (λ fed. HasPrepared self.new h item.now fed) }
@@ -60,7 +58,6 @@ impl Processor {
 
     /// Takes an item, begins the output of a query that it created, puts the pieces that it made due, and says its answer.
     pub fn process<D: Desk>(&mut self, desk: &mut D, item: &Item) -> Result<(), Stop>
-        requires taken { IsTaken item.now }
         requires range { InRange item.now }
         requires few { self.old.session.items < 2 ^ 62 }
         ensures calls { (h : List Item) (calls : List Entry) → HasProcessed self.old h calls →
@@ -92,9 +89,8 @@ impl Processor {
 fn append_done(lines: u64, out: &mut Vec<u8>) -> Result<(), NoMemory>
     ensures { OnOk result (out.new.items ≡ out.old.items ++ done_text lines) }
 {
-    let mut buffer = Buffer::new();
-    out.extend_from_slice(b"done ")?;
-    out.extend_from_slice(buffer.format(lines).as_bytes())?;
+    out.extend_from_slice(b"done")?;
+    append_spaced_decimal(lines, out)?;
     out.extend_from_slice(b"\n")?;
     Ok(())
 }

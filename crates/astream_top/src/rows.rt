@@ -1,37 +1,24 @@
-ghost use Rattle.std.specs.Prelude.{◌≡◌, ◌≤◌, ◌++◌, codes, length, drop, map, IfOk, OnOk};
+ghost use Rattle.std.specs.Prelude.{◌≡◌, ◌≤◌, ◌++◌, length, drop, map, IfOk, OnOk};
 ghost use Rattle.std.specs.List.{range_with_len};
-ghost use Rattle.std.specs.Fmt.{signed_decimal};
 ghost use Rattle.astream_top.specs.View.{row_text};
-ghost use Rattle.astream_top.specs.Kept.{not_before, rows_from, piece_of, pieces_of, NeverFalls};
+ghost use Rattle.astream_top.specs.Kept.{not_before, row_for, rows_for, piece_of, pieces_of, NeverFalls};
 ghost use Rattle.astream_top.specs.Outcome.{ArePieces};
 
 use crate::session::Live;
 use as_base::{Bytes, Given, NoMemory, Piece, Pieces};
-use itoa::Buffer;
-use std::alloc::Global;
+use as_words::{append_decimal, append_spaced_signed};
+use std::alloc::{AllocError, Global};
 
-// Appends a space and the value.
-fn push_value(value: i64, out: &mut Vec<u8>) -> Result<(), NoMemory>
-    ensures { OnOk result (out.new.items ≡ out.old.items ++ (codes " " ++ signed_decimal value)) }
-{
-    let mut digits = Buffer::new();
-    out.push(b' ')?;
-    out.extend_from_slice(digits.format(value).as_bytes())?;
-    Ok(())
-}
-
-// Appends the row of a record.
-fn push_row(given: &Given, out: &mut Vec<u8>) -> Result<(), NoMemory>
+// Appends the row of a record, or some front of it.
+fn append_row(given: &Given, out: &mut Vec<u8>) -> Result<(), AllocError>
     ensures { OnOk result (out.new.items ≡ out.old.items ++ row_text given.now) }
 {
-    let mut digits = Buffer::new();
-    out.extend_from_slice(digits.format(given.time).as_bytes())?;
-    push_value(given.key, out)?;
+    append_decimal(given.time, out)?;
+    append_spaced_signed(given.key, out)?;
     for value in &given.v {
-        push_value(*value, out)?;
+        append_spaced_signed(*value, out)?;
     }
-    out.push(b'\n')?;
-    Ok(())
+    out.extend_from_slice(b"\n")
 }
 
 // The index of the first record whose time is `from` or later, of records that stand by time.
@@ -42,14 +29,25 @@ fn first_from(from: u64, records: &[Given]) -> usize
     records.partition_point(|given| given.time < from)
 }
 
-// The rows of those of the records whose time is `from` or later; the records stand by time.
-fn rows_from(alloc: Global, from: u64, records: &[Given]) -> Result<Vec<u8>, NoMemory>
-    ensures { NeverFalls records.now → IfOk result (λ rows. rows.items ≡ rows_from from records.now) }
+// Appends the row of a record that the query wants.
+fn push_wanted(query: &Live, given: &Given, out: &mut Vec<u8>) -> Result<(), NoMemory>
+    ensures { OnOk result (out.new.items ≡ out.old.items ++ row_for query.now given.now) }
 {
-    let first = first_from(from, records);
+    if !query.wants(given) {
+        return Ok(());
+    }
+    append_row(given, out)?;
+    Ok(())
+}
+
+// The rows of those of the records that the query wants; the records stand by time.
+fn rows_for(alloc: Global, query: &Live, records: &[Given]) -> Result<Vec<u8>, NoMemory>
+    ensures { NeverFalls records.now → IfOk result (λ rows. rows.items ≡ rows_for query.now records.now) }
+{
+    let first = first_from(query.from, records);
     let mut rows = Vec::new(alloc);
     for given in &records[first..] {
-        push_row(given, &mut rows)?;
+        push_wanted(query, given, &mut rows)?;
     }
     Ok(rows)
 }
@@ -79,7 +77,7 @@ pub fn pieces_of(alloc: Global, queries: &[Live], records: &[Given]) -> Result<P
         return Ok(Pieces::from_vec(pieces));
     }
     for query in queries {
-        let rows = rows_from(alloc, query.from, records)?;
+        let rows = rows_for(alloc, query, records)?;
         push_piece(query.n, rows, &mut pieces)?;
     }
     Ok(Pieces::from_vec(pieces))

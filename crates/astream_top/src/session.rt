@@ -1,14 +1,18 @@
-ghost use Rattle.std.specs.Prelude.{◌≡◌, ◌<◌, ◌+◌, ◌^◌, [], ◌∷◌, ◌++◌, List, ℕ, length, map, IfOk, OnOk, Some, None};
+ghost use Rattle.std.specs.Prelude.{◌≡◌, ◌<◌, ◌+◌, ◌^◌, [], ◌∷◌, ◌++◌, List, ℕ, false, length, map, IfOk, OnOk, Some, None};
 ghost use Rattle.std.specs.List.{range_with_len};
 ghost use Rattle.as_base.specs.declared.item.Given.{Given};
 ghost use Rattle.as_base.specs.declared.item.Item.{Item};
-ghost use Rattle.as_base.specs.declared.item.Cause.{Cause};
 ghost use Rattle.as_base.specs.declared.item.StreamId.TheVariants.{A};
 ghost use Rattle.as_base.specs.Range.{InRange, IsTime};
+ghost use Rattle.astream_top.specs.Setup.{run_setup};
+ghost use Rattle.astream_top.specs.Stage.{is_built};
+ghost use Rattle.astream_top.specs.Book.{refusal_of_cause};
+ghost use Rattle.astream_top.specs.Kept.{wants};
 
 use crate::pending::{keep, take_passed};
+use crate::planning::selection_of;
 use crate::rows::pieces_of;
-use as_base::{Answer, Fed, Given, Item, NoMemory, Pieces, Word};
+use as_base::{Answer, Cause, Fed, Given, Item, NoMemory, Pieces, Plan, StreamId, Text, Word};
 use std::alloc::Global;
 use std::collections::VecDeque;
 
@@ -18,11 +22,21 @@ pub const STREAMS: u8 = 1;
 /// How many queries may live at once.
 pub const SLOTS: u16 = 64;
 
-/// A query that lives: its number, and the changelog time of its creation in ticks.
+/// A query that lives: its number, the changelog time of its creation in ticks, and its plan, a selection from stream a.
 #[derive(Clone, Copy, Debug)]
 pub struct Live {
     pub n: u64,
     pub from: u64,
+    pub plan: Plan,
+}
+
+impl Live {
+    /// The query wants the record, which is of stream a.
+    pub fn wants(&self, given: &Given) -> bool
+        ensures { result ≡ wants self.now given.now }
+    {
+        self.from <= given.time && self.plan.left_bounds.holds(given)
+    }
 }
 
 /// What is kept of the items taken so far: how many they are, the front and the watermark of stream a, the changelog
@@ -50,12 +64,33 @@ fn refused(alloc: Global, line: u64, word: Word) -> Fed
     }
 }
 
+// The item is one that is built: a record or a watermark of stream a, a creation, or a line in no form.
+fn is_built(item: &Item) -> bool
+    ensures { result ≡ is_built run_setup item.now }
+{
+    match item {
+        Item::Rec(given) => given.stream == StreamId::A,
+        Item::Mark(stream, _) => *stream == StreamId::A,
+        Item::Create(_) | Item::Bad(_) => true,
+        Item::End(_) | Item::Delete(_) => false,
+    }
+}
+
+// The word that a line in no form is refused by.
+fn word_of(cause: Cause) -> Word
+    ensures { result ≡ refusal_of_cause cause }
+{
+    match cause {
+        Cause::Long => Word::Long,
+        Cause::Form => Word::Form,
+    }
+}
+
 impl Session {
-    ghost use Rattle.as_lineform.specs.Item.{IsTaken};
-    ghost use Rattle.astream_top.specs.Setup.{run_setup};
+    ghost use Rattle.astream_top.specs.Stage.{taken};
     ghost use Rattle.astream_top.specs.Prompt.{shut};
-    ghost use Rattle.astream_top.specs.Outcome.{Adds, IsFed, ArePieces};
-    ghost use Rattle.astream_top.specs.Session.{StandsFor};
+    ghost use Rattle.astream_top.specs.Outcome.{Adds, IsStep, IsFed, ArePieces};
+    ghost use Rattle.astream_top.specs.Session.{StandsAt, StandsFor};
 
     /// A session that has taken nothing.
     pub fn new(alloc: Global) -> Session
@@ -77,8 +112,8 @@ impl Session {
         requires stream { given.now.stream ≡ A }
         requires range { IsTime given.now.time }
         requires few { self.old.items < 2 ^ 62 }
-        ensures stands { (h : List Item) → StandsFor self.old h → IfOk result (λ fed.
-            StandsFor self.new (h ++ Item.Rec given.now ∷ []) × IsFed run_setup h (Item.Rec given.now) fed) }
+        ensures stands { (h : List Item) → StandsAt self.old h → IfOk result (λ fed.
+            StandsAt self.new (h ++ Item.Rec given.now ∷ []) × IsStep run_setup h (Item.Rec given.now) fed) }
         ensures order { IfOk result (λ fed. ArePieces fed.pieces) }
         ensures count { OnOk result (self.new.items ≡ self.old.items + 1) }
     {
@@ -99,8 +134,8 @@ impl Session {
     fn take_mark(&mut self, time: u64) -> Result<Fed, NoMemory>
         requires range { IsTime time }
         requires few { self.old.items < 2 ^ 62 }
-        ensures stands { (h : List Item) → StandsFor self.old h → IfOk result (λ fed.
-            StandsFor self.new (h ++ Item.Mark A time ∷ []) × IsFed run_setup h (Item.Mark A time) fed) }
+        ensures stands { (h : List Item) → StandsAt self.old h → IfOk result (λ fed.
+            StandsAt self.new (h ++ Item.Mark A time ∷ []) × IsStep run_setup h (Item.Mark A time) fed) }
         ensures order { IfOk result (λ fed. ArePieces fed.pieces) }
         ensures count { OnOk result (self.new.items ≡ self.old.items + 1) }
     {
@@ -119,22 +154,27 @@ impl Session {
         })
     }
 
-    // Takes the creation of the selection from stream a.
-    fn take_creation(&mut self) -> Result<Fed, NoMemory>
+    // Takes a creation. Selections from stream a are the queries that are built.
+    fn take_creation(&mut self, text: &Text) -> Result<Fed, NoMemory>
         requires few { self.old.items < 2 ^ 62 }
-        ensures stands { (h : List Item) (text : List ℕ) → IsTaken (Item.Create text) → StandsFor self.old h → IfOk result (λ fed.
-            StandsFor self.new (h ++ Item.Create text ∷ []) × IsFed run_setup h (Item.Create text) fed) }
+        ensures stands { (h : List Item) → StandsAt self.old h → IfOk result (λ fed.
+            StandsAt self.new (h ++ Item.Create text.now ∷ []) × IsStep run_setup h (Item.Create text.now) fed) }
         ensures order { IfOk result (λ fed. ArePieces fed.pieces) }
         ensures count { OnOk result (self.new.items ≡ self.old.items + 1) }
     {
         self.items += 1;
+        let selection = selection_of(self.alloc, text)?;
+        let plan = match selection {
+            Ok(plan) => plan,
+            Err(word) => return Ok(refused(self.alloc, self.items, word)),
+        };
         let living = self.queries.len();
         if living >= SLOTS as usize {
             return Ok(refused(self.alloc, self.items, Word::Full));
         }
         let n = living as u64 + 1;
         let at = self.changelog_time;
-        self.queries.push(Live { n, from: at })?;
+        self.queries.push(Live { n, from: at, plan })?;
         let answer = Answer {
             line: self.items,
             word: Word::Created { n, at },
@@ -145,11 +185,23 @@ impl Session {
         })
     }
 
-    // Takes a line that this stage does not read.
-    fn take_bad(&mut self) -> Fed
+    // Takes a line in no form.
+    fn take_bad(&mut self, cause: Cause) -> Fed
         requires few { self.old.items < 2 ^ 62 }
-        ensures stands { (h : List Item) → StandsFor self.old h →
-            StandsFor self.new (h ++ Item.Bad Cause.Later ∷ []) × IsFed run_setup h (Item.Bad Cause.Later) result }
+        ensures stands { (h : List Item) → StandsAt self.old h →
+            StandsAt self.new (h ++ Item.Bad cause ∷ []) × IsStep run_setup h (Item.Bad cause) result }
+        ensures order { ArePieces result.pieces }
+        ensures count { self.new.items ≡ self.old.items + 1 }
+    {
+        self.items += 1;
+        refused(self.alloc, self.items, word_of(cause))
+    }
+
+    // Takes an item that is yet to be built.
+    fn put_off(&mut self) -> Fed
+        requires few { self.old.items < 2 ^ 62 }
+        ensures stands { (h : List Item) (x : Item) → is_built run_setup x ≡ false → StandsFor self.old h →
+            StandsFor self.new (h ++ x ∷ []) × IsFed run_setup h x result }
         ensures order { ArePieces result.pieces }
         ensures count { self.new.items ≡ self.old.items + 1 }
     {
@@ -160,7 +212,6 @@ impl Session {
     /// Takes an item: its answer by the rule, and the pieces of text that it makes due, by rising query number and none
     /// of them empty. After `NoMemory` the session is of no more use.
     pub fn feed(&mut self, item: &Item) -> Result<Fed, NoMemory>
-        requires taken { IsTaken item.now }
         requires range { InRange item.now }
         requires few { self.old.items < 2 ^ 62 }
         ensures stands { (h : List Item) → StandsFor self.old h → IfOk result (λ fed.
@@ -168,21 +219,25 @@ impl Session {
         ensures order { IfOk result (λ fed. ArePieces fed.pieces) }
         ensures count { OnOk result (self.new.items ≡ self.old.items + 1) }
     {
+        if !is_built(item) {
+            return Ok(self.put_off());
+        }
         match item {
             Item::Rec(given) => self.take_record(given),
             Item::Mark(_, time) => self.take_mark(*time),
-            Item::Create(_) => self.take_creation(),
-            Item::Bad(_) => Ok(self.take_bad()),
+            Item::Create(text) => self.take_creation(text),
+            Item::Bad(cause) => Ok(self.take_bad(*cause)),
             Item::End(_) | Item::Delete(_) => unreachable!(),
         }
     }
 
-    /// Ends the streams that have not ended: the pieces of text that this makes due, by rising query number and none of
-    /// them empty.
+    /// The pieces of text that the end of the streams that have not ended makes due, by rising query number and none of
+    /// them empty. The session stays as it was.
     pub fn finish(&mut self) -> Result<Pieces, NoMemory>
         ensures due { (h : List Item) → StandsFor self.old h → IfOk result (λ pieces.
-            Adds run_setup h (shut run_setup h) [] pieces) }
+            Adds run_setup (taken run_setup h) (shut run_setup (taken run_setup h)) [] pieces) }
         ensures order { IfOk result ArePieces }
+        ensures kept { (h : List Item) → StandsFor self.old h → IfOk result (λ _. StandsFor self.new h) }
     {
         let passed = self.pending.make_contiguous();
         pieces_of(self.alloc, &self.queries, passed)

@@ -1,12 +1,16 @@
-ghost use Rattle.std.specs.Prelude.{◌≡◌, ◌<◌, ◌^◌, ◌↔◌, ℕ, false, [], ◌∷◌, map, string_bytes};
+ghost use Rattle.std.specs.Prelude.{◌≡◌, ◌<◌, ◌^◌, ◌↔◌, ℕ, List, Some, None, [], ◌∷◌, map, string_bytes};
 ghost use Rattle.as_outside.specs.Shelf.{Since, Rose};
 ghost use Rattle.astream_top.specs.Setup.{run_setup};
-ghost use Rattle.astream_top.specs.Words.{are_run};
+ghost use Rattle.astream_top.specs.Words.{command_of};
+ghost use Rattle.astream_top.specs.Explain.{IsExplained};
+ghost use Rattle.astream_top.specs.declared.words.Command.{Command};
 ghost use Rattle.astream_top.specs.Report.{IsDone, IsTooLong, IsCutOff};
 ghost use Rattle.astream_top.specs.Ended.{IsUnsaid, IsBroken, IsCutShort};
 
+use crate::explain::explain;
 use crate::run::{pull_all, start};
 use crate::stop::Stop;
+use crate::words::{Command, command_of};
 use as_base::{NoMemory, Numbers};
 use as_outside::{Desk, Gate, Report, Status};
 use std::alloc::Global;
@@ -14,16 +18,6 @@ use std::thread::Threads;
 
 /// How many bytes of input a run takes at most: 2^40.
 pub const MAX_BYTES: u64 = 1_099_511_627_776;
-
-// The words of the call are the one word `run`.
-fn are_run(words: &[String]) -> bool
-    ensures { result ≡ are_run (map string_bytes words.now) }
-{
-    match words {
-        [word] => word.as_str() == "run",
-        _ => false,
-    }
-}
 
 // A run over the desk that takes at most `limit` bytes.
 fn run_within<D: Desk>(alloc: Global, desk: &mut D, limit: u64) -> Report
@@ -76,10 +70,12 @@ fn report(status: Status, lines: u64, broken: Vec<u64>) -> Report
     }
 }
 
-/// Runs the service over a desk. The only words are `run`: lines are pulled, answered, and queries' rows are put on their
-/// outputs, until the input ends. Any other words are `Usage`, and touch nothing. The gate is not called yet.
+/// Does what the words ask for over a desk. `run`: lines are pulled, answered, and queries' rows are put on their
+/// outputs, until the input ends. `explain` and the words of a query text: what it is over the four streams is said, its
+/// canonical text or the word that refuses it. Any other words are `Usage`, and touch nothing. The gate is not called
+/// yet.
 ///
-/// The report says how the run ended. After `Done` all that is due was put and said. `ReadFault`, `AnswerFault` and
+/// The report says how the call ended. After `Done` all that is due was put and said. `ReadFault`, `AnswerFault` and
 /// `OutputBroken` come only where the count of that call's faults rose, and that call is the last one; `broken` names the
 /// output whose call failed. `TooLong` comes where the byte after `MAX_BYTES` was pulled. `NoMemory` may always come.
 /// Before each pull, all that was due for the lines pulled so far was out, whatever comes of the run.
@@ -90,17 +86,17 @@ pub fn astream<R: Threads + Sync, D: Desk, G: Gate>(
     desk: &mut D,
     _gate: &G,
 ) -> Report
-    // All is done: the answers, the outputs and the last line are those of the whole input, and so is their promptness.
-    ensures done { result.status ≡ Status.Done → Since (D.log desk.old) (D.log desk.new) (IsDone run_setup MAX_BYTES result.lines) }
-
     // The words alone decide on `Usage`, which touches nothing.
-    ensures usage { (result.status ≡ Status.Usage) ↔ (are_run (map string_bytes words.now) ≡ false) }
+    ensures usage { (result.status ≡ Status.Usage) ↔ (command_of (map string_bytes words.now) ≡ None) }
     ensures untouched { result.status ≡ Status.Usage → (desk.new ≡ desk.old) × (result.lines ≡ 0) }
 
-    // Every other stop has its cause, and is the last of the calls.
+    // A run that is done: the answers, the outputs and the last line are those of the whole input, and so is their promptness.
+    ensures done { command_of (map string_bytes words.now) ≡ Some Command.Run → result.status ≡ Status.Done → Since (D.log desk.old) (D.log desk.new) (IsDone run_setup MAX_BYTES result.lines) }
+
+    // Every other stop of a run has its cause, and is the last of the calls.
     ensures read_fault { result.status ≡ Status.ReadFault → Since (D.log desk.old) (D.log desk.new) (IsCutOff run_setup MAX_BYTES result.lines) }
     ensures read_cause { result.status ≡ Status.ReadFault → Rose (D.pull_faults desk.old) (D.pull_faults desk.new) }
-    ensures answer_fault { result.status ≡ Status.AnswerFault → Since (D.log desk.old) (D.log desk.new) (IsUnsaid run_setup) }
+    ensures answer_fault { command_of (map string_bytes words.now) ≡ Some Command.Run → result.status ≡ Status.AnswerFault → Since (D.log desk.old) (D.log desk.new) (IsUnsaid run_setup) }
     ensures answer_cause { result.status ≡ Status.AnswerFault → Rose (D.say_faults desk.old) (D.say_faults desk.new) }
     ensures output_broken { result.status ≡ Status.OutputBroken → Since (D.log desk.old) (D.log desk.new) (IsBroken run_setup result.broken) }
     ensures output_cause { (n : ℕ) → result.broken ≡ n ∷ [] → Rose (D.output_faults desk.old n) (D.output_faults desk.new n) }
@@ -110,11 +106,20 @@ pub fn astream<R: Threads + Sync, D: Desk, G: Gate>(
 
     // Want of memory is the one free answer.
     ensures no_memory { result.status ≡ Status.NoMemory → Since (D.log desk.old) (D.log desk.new) (IsCutShort run_setup) }
+
+    // An explanation is one say, and takes no line.
+    ensures explained { (text : List ℕ) → command_of (map string_bytes words.now) ≡ Some (Command.Explain text) →
+        Since (D.log desk.old) (D.log desk.new) (IsExplained text result.status) × (result.lines ≡ 0) }
 {
-    if !are_run(words) {
-        return report(Status::Usage, 0, Vec::new(alloc));
+    match command_of(alloc, words) {
+        Ok(Some(Command::Run)) => run_within(alloc, desk, MAX_BYTES),
+        Ok(Some(Command::Explain(text))) => {
+            let status = explain(alloc, desk, &text);
+            report(status, 0, Vec::new(alloc))
+        }
+        Ok(None) => report(Status::Usage, 0, Vec::new(alloc)),
+        Err(NoMemory) => report(Status::NoMemory, 0, Vec::new(alloc)),
     }
-    run_within(alloc, desk, MAX_BYTES)
 }
 
 #[cfg(test)]

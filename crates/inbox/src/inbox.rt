@@ -25,7 +25,7 @@ impl Inbox {
     }
 
     /// Adds a load at the back, as the feeder of the pass. `Full` hands the load back and changes nothing of the pass;
-    /// it comes only where the queue held as many loads as it has room for at a moment of this call.
+    /// it comes only with a state that the queue's rule allows beside this pass, in which the room is used up.
     pub fn offer<R: Wait>(&self, rt: &R, pass: &mut FeedPass, load: Load) -> Result<(), Full>
         requires { inbox_of pass.old ≡ id_of self.now }
         ensures same { (inbox_of pass.new ≡ inbox_of pass.old) × (feeder_in pass.new ≡ feeder_in pass.old) }
@@ -39,8 +39,8 @@ impl Inbox {
         }
     }
 
-    /// Takes the load at the front, with its feeder's number. `None` changes nothing of the pass; it comes only where
-    /// the queue was empty at a moment of this call.
+    /// Takes the load at the front, with its feeder's number. `None` changes nothing of the pass; it comes only with a
+    /// state that the queue's rule allows beside this pass, in which the queue is empty.
     pub fn take<R: Wait>(&self, rt: &R, pass: &mut TakePass) -> Option<(u8, Load)>
         requires { taker_inbox pass.old ≡ id_of self.now }
         ensures same { taker_inbox pass.new ≡ taker_inbox pass.old }

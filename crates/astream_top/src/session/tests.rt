@@ -39,11 +39,19 @@ fn a_mark_brings_the_rows_before_it(rt: HostRuntime) -> Result<(), Fail> {
             word: Word::Late
         })
     );
-    let bad = session.feed(&Item::Bad(Cause::Later)).expect(&rt, "memory");
+    let bad = session.feed(&Item::Bad(Cause::Long)).expect(&rt, "memory");
     assert_eq!(rt;
         bad.answer,
         Some(Answer {
             line: 5,
+            word: Word::Long
+        })
+    );
+    let end = session.feed(&Item::End(StreamId::A)).expect(&rt, "memory");
+    assert_eq!(rt;
+        end.answer,
+        Some(Answer {
+            line: 6,
             word: Word::Later
         })
     );

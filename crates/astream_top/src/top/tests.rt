@@ -96,8 +96,85 @@ fn inputs_are_answered_by_the_rule(rt: HostRuntime) -> Result<(), Fail> {
     answers(
         &rt,
         alloc,
-        b"x\n\nmark a 1",
-        b"1 later\n2 later\ndone 3\n",
+        b"create select from a\nend a\ndelete 1\nrec a 3 1 0 0 0 0\nrec b 2 1 0 0 0 0\ncreate select from b\nmark a 4\n",
+        b"1 created 1 at 0\n2 later\n3 later\n5 later\n6 later\ndone 7\n",
+        b"3 1 0 0 0 0\n",
+    )
+}
+
+#[test]
+fn texts_are_planned_and_bound(rt: HostRuntime) -> Result<(), Fail> {
+    let alloc = rt.alloc();
+    answers(
+        &rt,
+        alloc,
+        b"create join a b tumble 5\ncreate join a a tumble 5\ncreate select from a where v1 > 4\nrec a 1 1 5 0 0 0\nrec a 2 1 4 0 0 0\n",
+        b"1 later\n2 twin\n3 created 1 at 0\ndone 5\n",
+        b"1 1 5 0 0 0\n",
+    )?;
+    answers(
+        &rt,
+        alloc,
+        b"create select form a\ncreate count by all from a tumble 0\ncreate\ncreate select from a where v1 <\ncreate select from d\n",
+        b"1 syntax 2\n2 window\n3 syntax 1\n4 syntax 7\n5 later\ndone 5\n",
+        b"not begun",
+    )
+}
+
+// What `explain` and these words say.
+fn explains<R: Threads + Sync + Abort>(
+    rt: &R,
+    alloc: Global,
+    text: &str,
+    wanted: &[u8],
+) -> Result<(), Fail> {
+    let mut words = vec![in alloc; String::from_str(alloc, "explain")?]?;
+    for word in text.split_whitespace() {
+        words.push(String::from_str(alloc, word)?)?;
+    }
+    let mut desk = desk(alloc, PASSED, None)?;
+    let report = astream(rt, alloc, &words, &mut desk, &FreeGate);
+    assert_eq!(rt; report.status, Status::Done);
+    assert_eq!(rt; desk.log().len(), 1);
+    assert_eq!(rt; said(alloc, desk.log())?.as_slice(), wanted);
+    Ok(())
+}
+
+#[test]
+fn texts_are_explained(rt: HostRuntime) -> Result<(), Fail> {
+    let alloc = rt.alloc();
+    explains(
+        &rt,
+        alloc,
+        "select from a where v1 < 30000 and key = 4",
+        b"select from a where key = 4 and v1 <= 29999\n",
+    )?;
+    explains(
+        &rt,
+        alloc,
+        "count by all from a tumble 5000000000",
+        b"window\n",
+    )?;
+    explains(
+        &rt,
+        alloc,
+        "join a b slide 10 5 right v2 > 9223372036854775807",
+        b"join a b slide 10 5 right v2 >= 9223372036854775807 and v2 <= -9223372036854775808\n",
+    )?;
+    explains(&rt, alloc, "join d d tumble 5", b"twin\n")?;
+    explains(&rt, alloc, "", b"syntax 1\n")
+}
+
+#[test]
+fn lines_in_no_form_are_named(rt: HostRuntime) -> Result<(), Fail> {
+    let alloc = rt.alloc();
+    let mut input = [b'x'; 5000].to_vec(alloc)?;
+    input.extend_from_slice(b"\n\xc3\xa9\n\nmark a 1")?;
+    answers(
+        &rt,
+        alloc,
+        &input,
+        b"1 long\n2 form\n3 form\ndone 4\n",
         b"not begun",
     )
 }
@@ -149,7 +226,18 @@ fn other_words_touch_nothing(rt: HostRuntime) -> Result<(), Fail> {
     let alloc = rt.alloc();
     touches_nothing(&rt, alloc, "")?;
     touches_nothing(&rt, alloc, "ran")?;
-    touches_nothing(&rt, alloc, "run ")
+    touches_nothing(&rt, alloc, "run ")?;
+    touches_nothing(&rt, alloc, "explain ")
+}
+
+#[test]
+fn a_failed_explanation_is_an_answer_fault(rt: HostRuntime) -> Result<(), Fail> {
+    let alloc = rt.alloc();
+    let mut desk = desk(alloc, PASSED, Some(1))?;
+    let report = called(&rt, alloc, &mut desk, "explain")?;
+    assert_eq!(rt; report.status, Status::AnswerFault);
+    assert_eq!(rt; report.lines, 0);
+    Ok(())
 }
 
 // Three queries, created at 0, at 2 and at 3.
@@ -251,11 +339,14 @@ fn each_call_may_fail(rt: HostRuntime) -> Result<(), Fail> {
 fn cut_at(k: usize) -> (&'static [u8], &'static [u8]) {
     match k {
         0 => (b"done 0\n", b"not begun"),
-        1..=19 => (b"1 later\ndone 1\n", b"not begun"),
+        1..=5 | 7 | 14 | 19 => (b"1 form\ndone 1\n", b"not begun"),
+        6 | 8..=12 => (b"1 syntax 1\ndone 1\n", b"not begun"),
+        13 | 15..=17 => (b"1 syntax 2\ndone 1\n", b"not begun"),
+        18 => (b"1 syntax 3\ndone 1\n", b"not begun"),
         20 | 21 => (b"1 created 1 at 0\ndone 1\n", b""),
-        22..=38 => (b"1 created 1 at 0\n2 later\ndone 2\n", b""),
+        22..=38 => (b"1 created 1 at 0\n2 form\ndone 2\n", b""),
         39 | 40 => (b"1 created 1 at 0\ndone 2\n", b"5 1 10 0 0 0\n"),
-        41..=47 => (b"1 created 1 at 0\n3 later\ndone 3\n", b"5 1 10 0 0 0\n"),
+        41..=47 => (b"1 created 1 at 0\n3 form\ndone 3\n", b"5 1 10 0 0 0\n"),
         _ => (b"1 created 1 at 0\ndone 3\n", b"5 1 10 0 0 0\n"),
     }
 }

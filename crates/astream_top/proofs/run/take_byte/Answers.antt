@@ -1,7 +1,10 @@
 use Rattle.std.proofs.Common.{[], append-nil}
 use Rattle.as_outside.proofs.Calls.{tells_none}
-use Rattle.astream_top.proofs.Goes.{goes_weaker}
+use Rattle.astream_top.proofs.Goes.{goes_out, goes_weaker}
 use Rattle.astream_top.proofs.run.take_byte.Goals as goal
+
+pub returns-in_err-item-clause-calls : goal.returns-in_err-item-clause-calls
+returns-in_err-item-clause-calls g c = λ bytes calls before. goes_out _ _ _ _ _ c.from_residual.ensures.1 ([], tells_none _, (tt, tt))
 
 pub returns-in-More-clause-calls : goal.returns-in-More-clause-calls
 returns-in-More-clause-calls g c = λ bytes calls before.

@@ -2,16 +2,25 @@ use Rattle.std.proofs.Common.{◌≡◌, ◌+◌, [], ◌∷◌, ◌++◌, lengt
 use Rattle.as_base.specs.declared.item.Item.TheVariants.{Create}
 use Rattle.as_base.specs.declared.answer.Word.TheVariants.{Created}
 use Rattle.astream_top.specs.Setup.{run_setup}
-use Rattle.astream_top.specs.Outcome.{IsFed}
+use Rattle.astream_top.specs.Outcome.{IsStep}
 use Rattle.astream_top.specs.Session.{Stands}
 use Rattle.astream_top.proofs.Numbers.{IsNumbered-pushed}
-use Rattle.astream_top.proofs.Steps.{full-step, create-step}
+use Rattle.astream_top.proofs.Steps.{unplanned-step, full-step, create-step}
 use Rattle.astream_top.proofs.session.Session.take_creation.Goals as goal
 
+pub returns-in-Err-clause-stands : goal.returns-in-Err-clause-stands
+returns-in-Err-clause-stands c = λ h s.
+    let text = c.args.text.now in
+    let no = rw c.in-Err.is at c.in_ok-selection.ensures in
+    let p = unplanned-step h text c.in-Err.word _ _ _ _ _ _ s no in
+    (p.0, subst (IsStep run_setup h (Create text)) (sym c.refused.ensures) p.1)
+
 pub returns-then-living-clause-stands : goal.returns-then-living-clause-stands
-returns-then-living-clause-stands c = λ h text is s.
-    let p = full-step h text _ _ _ _ _ _ s is (let q = c.args.self.now.queries in omega (arith, c.if-living.true, c.len-living.ensures, q.ok.0)) in
-    (p.0, subst (IsFed run_setup h (Create text)) (sym c.refused.ensures) p.1)
+returns-then-living-clause-stands c = λ h s.
+    let text = c.args.text.now in
+    let planned = rw c.in-Ok.is at c.in_ok-selection.ensures in
+    let p = full-step h text c.in-Ok.plan _ _ _ _ _ _ s planned.0 planned.1 (let q = c.args.self.now.queries in omega (arith, c.if-living.true, c.len-living.ensures, q.ok.0)) in
+    (p.0, subst (IsStep run_setup h (Create text)) (sym c.refused-then-living.ensures) p.1)
 
 pub invariant_of-self-2 : goal.invariant_of-self-2
 invariant_of-self-2 c = record {
@@ -19,13 +28,16 @@ invariant_of-self-2 c = record {
 }
 
 pub returns-clause-stands : goal.returns-clause-stands
-returns-clause-stands c = λ h text is s.
+returns-clause-stands c = λ h s.
+    let text = c.args.text.now in
+    let planned = rw c.in-Ok.is at c.in_ok-selection.ensures in
+    let plan = c.in-Ok.plan in
     let old = c.args.self.now in
     let queries = old.queries.items in
     let many : length queries ≡ c.len-living.result = let q = old.queries in omega (arith, c.len-living.ensures, q.ok.0) in
-    let pushed : c.push.new.self.items ≡ queries ++ (record { n = c.len-living.result + 1; from = old.changelog_time }) ∷ [] = (c.in_ok-push.ensures).items in
-    let p = create-step h text _ _ _ _ queries _ s old.numbered is (omega (arith, many, c.if-living.false)) in (
+    let pushed : c.push.new.self.items ≡ queries ++ (record { n = c.len-living.result + 1; from = old.changelog_time; plan = plan }) ∷ [] = (c.in_ok-push.ensures).items in
+    let p = create-step h text plan _ _ _ _ queries _ s old.numbered planned.0 planned.1 (omega (arith, many, c.if-living.false)) in (
       subst (λ l. Stands (h ++ Create text ∷ []) (old.items + 1) old.front old.mark old.changelog_time l old.pending.items)
-          (sym (pushed ∙ ap (λ m. queries ++ (record { n = m + 1; from = old.changelog_time }) ∷ []) (sym many))) p.0,
-      subst₂ (λ m l. IsFed run_setup h (Create text) (record { answer = Some (record { line = old.items + 1; word = Created (m + 1) old.changelog_time }); pieces = l })) many (sym (c.from_vec.ensures ∙ c.new.ensures.items)) p.1,
+          (sym (pushed ∙ ap (λ m. queries ++ (record { n = m + 1; from = old.changelog_time; plan = plan }) ∷ []) (sym many))) p.0,
+      subst₂ (λ m l. IsStep run_setup h (Create text) (record { answer = Some (record { line = old.items + 1; word = Created (m + 1) old.changelog_time }); pieces = l })) many (sym (c.from_vec.ensures ∙ c.new.ensures.items)) p.1,
     )

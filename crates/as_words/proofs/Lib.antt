@@ -1,0 +1,4 @@
+pub mod NumberLaws
+pub mod PartLaws
+pub mod WordLaws
+pub mod GrowsLaws

@@ -1,0 +1,243 @@
+use Rattle.std.proofs.Common.{◌≡◌, ℕ, zero, suc, ◌+◌, ◌*◌, ◌^◌, ◌<◌, ◌≤◌, ◌&&◌, Bool, true, false, if◌then◌else◌, Option, Some, None, List, [], ◌∷◌, length, take, get_or, refl, sym, ap, ap₂, true≢false, ◌∙◌, subst, arith, bytes_eq, nat_lt, decimal, ℤ, pos, negsuc, neg_ℤ, int_lt, SomeIff, eq-zero-or-pos, slice_get, inl, inr, ◌≢◌, slice_index, ◌==◌, drop, eqb}
+use Rattle.std.specs.Char.{digit_value}
+use Rattle.std.specs.Int.{IsInRange}
+use Rattle.std.specs.Cmp.Lexicographic.{pointwise}
+use Rattle.std.specs.Fmt.{signed_decimal, digits}
+use Rattle.std.specs.Str.Parse.{AllDigits, digits_value, signed_digits_value}
+use Rattle.std.proofs.lemmas.Bool.{cond_both, cond-true, and_parts, and_from, ltb-true, lt-ltb, eqb-true, ne_eqb}
+use Rattle.std.proofs.lemmas.Fmt.{decimal_digit, decimal_nonempty, first_decimal, digits_decimal, digits_value-decimal, decimal-digits_value, decimal_injective}
+use Rattle.std.proofs.lemmas.Int.Digits.{digits_value_more}
+use Rattle.std.proofs.lemmas.Slice.Eq.{bytes_eq-Decides}
+use Rattle.std.proofs.lemmas.Str.Parse.{IsNumeralModel, numerals_by_value, tells_digits, digit_at, digits_value-take-le}
+use Rattle.std.specs.Result.{result_ok, OkIff}
+use Rattle.std.proofs.Common.{Result, Ok, Err, SFits, w64}
+use lib.Signed.{mag}
+use Rattle.as_words.specs.Number.{natural, integer}
+
+pub own : IsNumeralModel (AllDigits 10) (digits_value 10)
+own = numerals_by_value (AllDigits 10) tells_digits
+
+digit_below : (bytes : List ℕ) (i : ℕ) → AllDigits 10 bytes → i < length bytes → digit_value (get_or bytes i 0) < 10
+digit_below [] i h l = absurd (omega arith)
+digit_below (b ∷ bytes) zero h l = h.0
+digit_below (b ∷ bytes) (suc i) h l = digit_below bytes i h.1 (omega arith)
+
+-- where one more digit is none, or makes the number too great, the bytes are no digits of a number that fits
+pub no_number : (bytes : List ℕ) (i n : ℕ) → i < length bytes → n ≡ digits_value 10 (take i bytes)
+    → ((digit_value (get_or bytes i 0) < 10) × (n * 10 + digit_value (get_or bytes i 0) < 2 ^ 64) → ⊥)
+    → AllDigits 10 bytes × (digits_value 10 bytes < 2 ^ 64) → ⊥
+no_number bytes i n l e bad h =
+    let more = digits_value_more 10 bytes i l in
+    let front : digits_value 10 (take (i + 1) bytes) ≤ digits_value 10 bytes = digits_value-take-le 10 bytes (i + 1) (omega arith) in
+    bad (digit_below bytes i h.0 l, omega (arith, more, front, e, h.1))
+
+-- a word that spells no number below the limit
+pub natural-None : (limit : ℕ) (word : List ℕ) → ((n : ℕ) → n < limit → word ≡ decimal n → ⊥) → natural limit word ≡ None
+natural-None limit word none =
+    cond_both (bytes_eq (decimal (digits_value 10 word)) word && nat_lt (digits_value 10 word) limit) (Some (digits_value 10 word)) None (λ o. o ≡ None)
+    (λ h. let parts = and_parts (bytes_eq (decimal (digits_value 10 word)) word) (nat_lt (digits_value 10 word) limit) h in
+    absurd (none (digits_value 10 word) (ltb-true (digits_value 10 word) limit parts.1) (sym ((bytes_eq-Decides (decimal (digits_value 10 word)) word).0 parts.0))))
+    (λ h. refl)
+
+-- a word that spells this number
+pub natural-Some : (limit n : ℕ) (word : List ℕ) → n < limit → n < 2 ^ 64 → word ≡ decimal n → natural limit word ≡ Some n
+natural-Some limit n word l fits e =
+    let v : digits_value 10 word ≡ n = ap (digits_value 10) e ∙ digits_value-decimal own n fits in
+    let spelled : bytes_eq (decimal (digits_value 10 word)) word ≡ true = (bytes_eq-Decides (decimal (digits_value 10 word)) word).1 (ap (λ m. decimal m) v ∙ sym e) in
+    let below : nat_lt (digits_value 10 word) limit ≡ true = lt-ltb (digits_value 10 word) limit (omega (arith, v, l)) in
+    cond-true (bytes_eq (decimal (digits_value 10 word)) word && nat_lt (digits_value 10 word) limit) (Some (digits_value 10 word)) None (and_from _ _ spelled below) ∙ ap (λ m. Some m) v
+
+-- what a number that was read tells, and what no number tells
+pub spells-natural : (limit n : ℕ) (word : List ℕ) → natural limit word ≡ Some n → (n < limit) × (word ≡ decimal n)
+spells-natural limit n word =
+    cond_both (bytes_eq (decimal (digits_value 10 word)) word && nat_lt (digits_value 10 word) limit) (Some (digits_value 10 word)) None (λ o. o ≡ Some n → (n < limit) × (word ≡ decimal n))
+    (λ h e. let parts = and_parts (bytes_eq (decimal (digits_value 10 word)) word) (nat_lt (digits_value 10 word) limit) h in
+    let v : digits_value 10 word ≡ n = cc e in
+    let below : digits_value 10 word < limit = ltb-true (digits_value 10 word) limit parts.1 in
+    (omega (arith, v, below), sym ((bytes_eq-Decides (decimal (digits_value 10 word)) word).0 parts.0) ∙ ap (λ m. decimal m) v))
+    (λ h e. cc e)
+
+pub misses-natural : (limit n : ℕ) (word : List ℕ) → natural limit word ≡ None → n < limit → n < 2 ^ 64 → word ≡ decimal n → ⊥
+misses-natural limit n word none l fits e = cc (none, natural-Some limit n word l fits e)
+
+-- a smaller limit
+pub natural-below : (limit : ℕ) (word : List ℕ) (n : ℕ) → limit ≤ 2 ^ 64 → natural (2 ^ 64) word ≡ Some n → natural limit word ≡ (if nat_lt n limit then Some n else None)
+natural-below limit word n low e =
+    let s = spells-natural (2 ^ 64) n word e in
+    cond_both (nat_lt n limit) (Some n) None (λ o. natural limit word ≡ o)
+    (λ h. natural-Some limit n word (ltb-true n limit h) s.0 s.1)
+    (λ h. natural-None limit word (λ m l w.
+    let same : m ≡ n = decimal_injective m n (omega (arith, l, low)) s.0 (sym w ∙ s.1) in
+    cc (h, lt-ltb n limit (omega (arith, same, l)))))
+
+pub natural-none_below : (limit : ℕ) (word : List ℕ) → limit ≤ 2 ^ 64 → natural (2 ^ 64) word ≡ None → natural limit word ≡ None
+natural-none_below limit word low e = natural-None limit word (λ n l w. misses-natural (2 ^ 64) n word e (omega (arith, l, low)) (omega (arith, l, low)) w)
+
+-- the empty word, and a zero before further digits
+pub natural-nil : natural (2 ^ 64) [] ≡ None
+natural-nil = natural-None (2 ^ 64) [] (λ n l w. absurd (omega (arith, decimal_nonempty n l, ap length w)))
+
+pub natural-zero : (word : List ℕ) → get_or word 0 0 ≡ 48 → 1 < length word → natural (2 ^ 64) word ≡ None
+natural-zero word z long = natural-None (2 ^ 64) word (λ n l w.
+    elim (eq-zero-or-pos n) [
+      | inl none ↦ absurd (omega (arith, long, ap length (w ∙ ap (λ m. decimal m) none ∙ decimal_digit 0 (omega arith))))
+      | inr some ↦ absurd (omega (arith, z, ap (λ xs. get_or xs 0 0) w, first_decimal n some l))
+    ])
+
+-- a word of digits, without a zero before further ones, spells the digits' number
+pub natural-digits : (word : List ℕ) (r : Option ℕ) → 0 < length word → (get_or word 0 0 ≡ 48 → length word ≡ 1)
+    → SomeIff r (AllDigits 10 word × (digits_value 10 word < 2 ^ 64)) (digits_value 10 word) → r ≡ natural (2 ^ 64) word
+natural-digits word (Some n) some lead h =
+    let spelled : decimal (digits_value 10 word) ≡ word = decimal-digits_value own word h.0.0 some lead h.0.1 in
+    sym (natural-Some (2 ^ 64) n word (omega (arith, h.1, h.0.1)) (omega (arith, h.1, h.0.1)) (sym spelled ∙ ap (λ m. decimal m) (sym h.1)))
+natural-digits word None some lead h =
+    sym (natural-None (2 ^ 64) word (λ n l w.
+    h (subst (AllDigits 10) (sym w) (digits_decimal own n l), omega (arith, ap (digits_value 10) w ∙ digits_value-decimal own n l, l))))
+
+digit_first : (n : ℕ) → n < 2 ^ 64 → IsInRange 48 57 (get_or (decimal n) 0 0)
+digit_first n l = digit_at (decimal n) 0 (digits_decimal own n l) (decimal_nonempty n l)
+
+plain_value : (bs : List ℕ) → (get_or bs 0 0 ≡ 45 → ⊥) → (get_or bs 0 0 ≡ 43 → ⊥) → signed_digits_value 10 bs ≡ pos (digits_value 10 bs)
+plain_value bs m p =
+    let minus : (slice_index bs 0 == 45) ≡ false = ne_eqb (get_or bs 0 0) 45 m in
+    let plus : (slice_index bs 0 == 43) ≡ false = ne_eqb (get_or bs 0 0) 43 p in
+    rw (minus, plus) refl
+
+value-signed_decimal : (z : ℤ) → mag z < 2 ^ 63 → signed_digits_value 10 (signed_decimal z) ≡ z
+value-signed_decimal (pos n) h =
+    let d = digit_first n (omega (arith, h)) in
+    plain_value (decimal n) (λ e. omega (arith, e, d.0)) (λ e. omega (arith, e, d.0)) ∙ ap (λ m. pos m) (digits_value-decimal own n (omega (arith, h)))
+value-signed_decimal (negsuc n) h = ap (λ m. neg_ℤ (pos m)) (digits_value-decimal own (suc n) (omega (arith, h)))
+
+mag-lt : (z : ℤ) → int_lt (negsuc (2 ^ 63)) z ≡ true → int_lt z (pos (2 ^ 63)) ≡ true → mag z < 2 ^ 63
+mag-lt (pos n) low high = ltb-true n (2 ^ 63) high
+mag-lt (negsuc n) low high = ltb-true n (2 ^ 63) low
+
+lt-low : (z : ℤ) → mag z < 2 ^ 63 → int_lt (negsuc (2 ^ 63)) z ≡ true
+lt-low (pos n) h = refl
+lt-low (negsuc n) h = lt-ltb n (2 ^ 63) h
+
+lt-high : (z : ℤ) → mag z < 2 ^ 63 → int_lt z (pos (2 ^ 63)) ≡ true
+lt-high (pos n) h = lt-ltb n (2 ^ 63) h
+lt-high (negsuc n) h = refl
+
+-- the test of `integer`, at the value that the word's digits give
+abbrev is_spelled : ℤ → List ℕ → Bool
+is_spelled z word = bytes_eq (signed_decimal z) word && int_lt (negsuc (2 ^ 63)) z && int_lt z (pos (2 ^ 63))
+
+pub integer-None : (word : List ℕ) → ((z : ℤ) → mag z < 2 ^ 63 → word ≡ signed_decimal z → ⊥) → integer word ≡ None
+integer-None word none =
+    let z : ℤ = signed_digits_value 10 word in
+    cond_both (is_spelled z word) (Some z) None (λ o. o ≡ None)
+    (λ h. let two = and_parts (bytes_eq (signed_decimal z) word && int_lt (negsuc (2 ^ 63)) z) (int_lt z (pos (2 ^ 63))) h in
+    let one = and_parts (bytes_eq (signed_decimal z) word) (int_lt (negsuc (2 ^ 63)) z) two.0 in
+    absurd (none z (mag-lt z one.1 two.1) (sym ((bytes_eq-Decides (signed_decimal z) word).0 one.0))))
+    (λ h. refl)
+
+-- a number that was read fits
+pub integer-fits : (word : List ℕ) (z : ℤ) → integer word ≡ Some z → mag z < 2 ^ 63
+integer-fits word z =
+    let y : ℤ = signed_digits_value 10 word in
+    cond_both (is_spelled y word) (Some y) None (λ o. o ≡ Some z → mag z < 2 ^ 63)
+    (λ h e. let two = and_parts (bytes_eq (signed_decimal y) word && int_lt (negsuc (2 ^ 63)) y) (int_lt y (pos (2 ^ 63))) h in
+    let one = and_parts (bytes_eq (signed_decimal y) word) (int_lt (negsuc (2 ^ 63)) y) two.0 in
+    let same : y ≡ z = cc e in
+    let Small : ℤ → Type 0 = λ x. mag x < 2 ^ 63 in
+    subst Small same (mag-lt y one.1 two.1))
+    (λ h e. cc e)
+
+-- a number that was read is what its word spells
+pub integer-spells : (word : List ℕ) (z : ℤ) → integer word ≡ Some z → word ≡ signed_decimal z
+integer-spells word z =
+    let y : ℤ = signed_digits_value 10 word in
+    cond_both (is_spelled y word) (Some y) None (λ o. o ≡ Some z → word ≡ signed_decimal z)
+    (λ h e. let two = and_parts (bytes_eq (signed_decimal y) word && int_lt (negsuc (2 ^ 63)) y) (int_lt y (pos (2 ^ 63))) h in
+    let one = and_parts (bytes_eq (signed_decimal y) word) (int_lt (negsuc (2 ^ 63)) y) two.0 in
+    let same : y ≡ z = cc e in
+    sym ((bytes_eq-Decides (signed_decimal y) word).0 one.0) ∙ ap (λ x. signed_decimal x) same)
+    (λ h e. cc e)
+
+pub integer-Some : (z : ℤ) (word : List ℕ) → mag z < 2 ^ 63 → word ≡ signed_decimal z → integer word ≡ Some z
+integer-Some z word h e =
+    let v : signed_digits_value 10 word ≡ z = ap (signed_digits_value 10) e ∙ value-signed_decimal z h in
+    let test : is_spelled z word ≡ true = and_from _ _ (and_from _ _ ((bytes_eq-Decides (signed_decimal z) word).1 (sym e)) (lt-low z h)) (lt-high z h) in
+    cond-true (is_spelled (signed_digits_value 10 word) word) (Some (signed_digits_value 10 word)) None (ap (λ y. is_spelled y word) v ∙ test) ∙ ap (λ y. Some y) v
+
+-- a word without a minus in front
+no_plain : (word : List ℕ) → ((rest : List ℕ) → word ≢ 45 ∷ rest) → natural (2 ^ 64) word ≡ None → (z : ℤ) → mag z < 2 ^ 63 → word ≡ signed_decimal z → ⊥
+no_plain word m none (pos n) h w = misses-natural (2 ^ 64) n word none (omega (arith, h)) (omega (arith, h)) w
+no_plain word m none (negsuc n) h w = m (decimal (suc n)) w
+
+pub integer-plain_none : (word : List ℕ) → ((rest : List ℕ) → word ≢ 45 ∷ rest) → natural (2 ^ 64) word ≡ None → integer word ≡ None
+integer-plain_none word m none = integer-None word (no_plain word m none)
+
+too_great : (n : ℕ) → n < 2 ^ 64 → 2 ^ 63 ≤ n → (z : ℤ) → mag z < 2 ^ 63 → decimal n ≡ signed_decimal z → ⊥
+too_great n l g (pos m) h w = omega (arith, h, g, decimal_injective n m l (omega (arith, h)) w)
+too_great n l g (negsuc m) h w = omega (arith, ap (λ xs. get_or xs 0 0) w, (digit_first n l).0)
+
+-- the number of a word without a minus in front
+pub integer-plain : (word : List ℕ) (n : ℕ) (r : Option ℤ) → natural (2 ^ 64) word ≡ Some n → SomeIff r (n < 2 ^ 63) (pos n) → r ≡ integer word
+integer-plain word n (Some z) e h = sym (ap integer (spells-natural (2 ^ 64) n word e).1 ∙ integer-Some (pos n) (decimal n) h.0 refl ∙ ap (λ y. Some y) (sym h.1))
+integer-plain word n None e h =
+    let s = spells-natural (2 ^ 64) n word e in
+    sym (integer-None word (λ z k w. too_great n s.0 (omega (arith, h)) z k (sym s.1 ∙ w)))
+
+no_minus : (word : List ℕ) → ((n : ℕ) → 0 < n → n ≤ 2 ^ 63 → word ≡ decimal n → ⊥) → (z : ℤ) → mag z < 2 ^ 63 → 45 ∷ word ≡ signed_decimal z → ⊥
+no_minus word none (pos n) h w = omega (arith, ap (λ xs. get_or xs 0 0) w, (digit_first n (omega (arith, h))).0)
+no_minus word none (negsuc n) h w = none (suc n) (omega arith) (omega (arith, h)) (ap (drop 1) w)
+
+-- a word after a minus that is no number
+pub integer-minus_none : (word : List ℕ) → natural (2 ^ 64) word ≡ None → integer (45 ∷ word) ≡ None
+integer-minus_none word none = integer-None (45 ∷ word) (no_minus word (λ n some h w. misses-natural (2 ^ 64) n word none (omega (arith, h)) (omega (arith, h)) w))
+
+minus_spelled : (n : ℕ) → 0 < n → n ≤ 2 ^ 63 → integer (45 ∷ decimal n) ≡ Some (neg_ℤ (pos n))
+minus_spelled zero some h = absurd (omega (arith, some))
+minus_spelled (suc n) some h = integer-Some (negsuc n) (45 ∷ decimal (suc n)) (omega (arith, h)) refl
+
+-- the number of a word after a minus
+pub integer-minus : (word : List ℕ) (n : ℕ) (r : Option ℤ) → natural (2 ^ 64) word ≡ Some n → SomeIff r ((0 < n) × (n ≤ 2 ^ 63)) (neg_ℤ (pos n)) → r ≡ integer (45 ∷ word)
+integer-minus word n (Some z) e h =
+    let s = spells-natural (2 ^ 64) n word e in
+    sym (ap (λ w. integer (45 ∷ w)) s.1 ∙ minus_spelled n h.0.0 h.0.1 ∙ ap (λ y. Some y) (sym h.1))
+integer-minus word n None e h =
+    let s = spells-natural (2 ^ 64) n word e in
+    sym (integer-None (45 ∷ word) (no_minus word (λ m some k w.
+    let same : m ≡ n = decimal_injective m n (omega (arith, k)) s.0 (sym w ∙ s.1) in
+    h (omega (arith, some, same), omega (arith, k, same)))))
+
+-- what the first byte tells, and that there is none
+pub first_is : (bytes : List ℕ) (b : ℕ) → Some b ≡ slice_get bytes 0 → (0 < length bytes) × (get_or bytes 0 0 ≡ b)
+first_is [] b e = cc e
+first_is (c ∷ bytes) b e = (omega arith, cc e)
+
+pub none_first : (bytes : List ℕ) → None ≡ slice_get bytes 0 → natural (2 ^ 64) bytes ≡ None
+none_first [] e = natural-nil
+none_first (c ∷ bytes) e = cc e
+
+-- what a minus in front tells, and that there is none
+pub after_minus : (word digits : List ℕ) → pointwise eqb (take 1 word) (45 ∷ []) ≡ true → digits ≡ drop 1 word → word ≡ 45 ∷ digits
+after_minus [] digits h e = cc h
+after_minus (b ∷ word) digits h e =
+    let minus : b ≡ 45 = eqb-true b 45 (and_parts (eqb b 45) true h).0 in
+    ap₂ (λ x xs. x ∷ xs) minus (sym e)
+
+pub before_none : (word : List ℕ) → pointwise eqb (take 1 word) (45 ∷ []) ≡ false → (rest : List ℕ) → word ≢ 45 ∷ rest
+before_none word h rest e = true≢false (ap (λ w. pointwise eqb (take 1 w) (45 ∷ [])) (sym e) ∙ h)
+
+-- a number that a conversion to `i64` lets through
+fitted : {E : Type 0} (n : ℕ) (t : Result ℤ E) → OkIff t (SFits w64 (pos n)) (pos n) → SomeIff (result_ok t) (n < 2 ^ 63) (pos n)
+fitted n (Ok z) h = (h.0.sfits, h.1)
+fitted n (Err e) h = λ l. h (record { sfits = l })
+
+pub integer-converted : {E : Type 0} (word : List ℕ) (n : ℕ) (t : Result ℤ E) → natural (2 ^ 64) word ≡ Some n → OkIff t (SFits w64 (pos n)) (pos n) → result_ok t ≡ integer word
+integer-converted word n t e h = integer-plain word n (result_ok t) e (fitted n t h)
+
+-- what an integer that was read tells
+pub spells-integer : (word : List ℕ) (z : ℤ) → integer word ≡ Some z → ((int_lt (negsuc (2 ^ 63)) z ≡ true) × (int_lt z (pos (2 ^ 63)) ≡ true)) × (word ≡ signed_decimal z)
+spells-integer word z e =
+    let fits : mag z < 2 ^ 63 = integer-fits word z e in
+    ((lt-low z fits, lt-high z fits), integer-spells word z e)
+
+-- a number in the range is read from its spelling
+pub integer-spelled : (z : ℤ) → int_lt (negsuc (2 ^ 63)) z ≡ true → int_lt z (pos (2 ^ 63)) ≡ true → integer (signed_decimal z) ≡ Some z
+integer-spelled z low high = integer-Some z (signed_decimal z) (mag-lt z low high) refl

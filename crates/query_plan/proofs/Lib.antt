@@ -1,0 +1,5 @@
+mod Worked
+pub mod LimitLaws
+pub mod WordLaws
+pub mod PlanLaws
+pub mod TextLaws

@@ -1,0 +1,6 @@
+use Rattle.std.proofs.Common.{◌≡◌, take}
+use Rattle.query_plan.specs.Limits.{low_of}
+use Rattle.query_plan.proofs.limits.low_of.Given as goal
+
+abbrev pub invariant-loop-cond : goal.invariant-loop-cond
+invariant-loop-cond l = l.low ≡ low_of l.field (take l.cond-index l.conds)

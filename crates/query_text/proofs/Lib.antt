@@ -1,0 +1,6 @@
+mod Worked
+mod TextLaws
+pub mod PlaceLaws
+pub mod GrammarLaws
+pub mod FaultLaws
+mod ReadingLaws
