@@ -1,9 +1,9 @@
 -- Calls one after another, up to the one that stopped the run.
-use Rattle.std.proofs.Common.{◌≡◌, Result, Ok, Err, Option, List, [], ◌∷◌, ◌++◌, sym, ap, ◌∙◌, append_assoc, inl, inr, ⊎_elim, IsErrAnd}
+use Rattle.std.proofs.Common.{◌≡◌, ℕ, Result, Ok, Err, Option, List, [], ◌∷◌, ◌++◌, refl, sym, ap, ◌∙◌, append_assoc, inl, inr, ⊎_elim, IsErrAnd}
 use Rattle.std.proofs.lemmas.Result.{err_from_is_err_and}
 use Rattle.as_outside.specs.declared.entry.Entry.{Entry}
 use Rattle.as_outside.specs.declared.entry.Entry.TheVariants.{SayFailed, BeginFailed, PutFailed}
-use Rattle.as_outside.specs.Shelf.{Since}
+use Rattle.as_outside.specs.Shelf.{Tells, Since}
 use Rattle.as_outside.proofs.Calls.{tells_after}
 use Rattle.astream_top.specs.declared.stop.Stop.{Stop}
 use Rattle.astream_top.specs.declared.stop.Stop.TheVariants as stop
@@ -95,3 +95,15 @@ goes_out a b r s R out h =
     let p = err_from_is_err_and r out in
     let is : r ≡ Err s = p.1 ∙ ap Err p.2 in
     rw is h
+
+-- a say that failed stops the run
+pub say_stops : (a b : Option (List Entry)) (front : List ℕ) → Tells a b (SayFailed front ∷ []) → Since a b (λ calls. HasNoPull calls × IsStoppedBy stop.AnswerFault calls)
+say_stops a b front h = (SayFailed front ∷ [], h, ((refl, tt), (front, record { before = []; last = refl; faultless = tt })))
+
+-- a begin that failed stops the run
+pub begin_stops : (a b : Option (List Entry)) (n : ℕ) → Tells a b (BeginFailed n ∷ []) → Since a b (λ calls. HasNoPull calls × IsStoppedBy (stop.OutputBroken n) calls)
+begin_stops a b n h = (BeginFailed n ∷ [], h, ((refl, tt), inl (record { before = []; last = refl; faultless = tt })))
+
+-- a put that failed stops the run
+pub put_stops : (a b : Option (List Entry)) (n : ℕ) (front : List ℕ) → Tells a b (PutFailed n front ∷ []) → Since a b (λ calls. HasNoPull calls × IsStoppedBy (stop.OutputBroken n) calls)
+put_stops a b n front h = (PutFailed n front ∷ [], h, ((refl, tt), inr (front, record { before = []; last = refl; faultless = tt })))

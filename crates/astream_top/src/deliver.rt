@@ -37,6 +37,7 @@ pub fn begin_created<D: Desk>(desk: &mut D, answer: Option<Answer>) -> Result<()
     }
 }
 
+#[tactic(auto, using(crate::proofs::Goes::begin_stops))]
 fn begin<D: Desk>(desk: &mut D, n: u64) -> Result<(), Stop>
     ensures calls { Since (D.log desk.old) (D.log desk.new) (Goes result (λ calls. calls ≡ begins_of (n ∷ []))) }
     ensures counted { IsCounted (D.say_faults desk.old) (D.say_faults desk.new) (D.pull_faults desk.old)
@@ -48,6 +49,7 @@ fn begin<D: Desk>(desk: &mut D, n: u64) -> Result<(), Stop>
     }
 }
 
+#[tactic(auto, using(crate::proofs::Goes::put_stops))]
 fn put<D: Desk>(desk: &mut D, piece: &Piece) -> Result<(), Stop>
     ensures calls { Since (D.log desk.old) (D.log desk.new) (Goes result (λ calls. calls ≡ puts_of (piece.now ∷ []))) }
     ensures counted { IsCounted (D.say_faults desk.old) (D.say_faults desk.new) (D.pull_faults desk.old)
@@ -72,6 +74,7 @@ pub fn put_all<D: Desk>(desk: &mut D, pieces: &[Piece]) -> Result<(), Stop>
 }
 
 /// Says the text, if there is any.
+#[tactic(auto, using(crate::proofs::Goes::say_stops))]
 pub fn say<D: Desk>(desk: &mut D, text: &[u8]) -> Result<(), Stop>
     ensures calls { Since (D.log desk.old) (D.log desk.new) (Goes result (λ calls. calls ≡ says_of text.now)) }
     ensures counted { IsCounted (D.say_faults desk.old) (D.say_faults desk.new) (D.pull_faults desk.old)

@@ -1,4 +1,4 @@
-ghost use Rattle.std.specs.Prelude.{◌≡◌, ◌<◌, ◌+◌, ◌^◌, [], ◌∷◌, ◌++◌, List, ℕ, false, length, map, IfOk, OnOk, Some, None};
+ghost use Rattle.std.specs.Prelude.{◌≡◌, ◌<◌, ◌+◌, ◌^◌, [], ◌∷◌, ◌++◌, List, ℕ, false, nat_lt, length, map, IfOk, OnOk, Some, None};
 ghost use Rattle.std.specs.List.{range_with_len};
 ghost use Rattle.as_base.specs.declared.item.Given.{Given};
 ghost use Rattle.as_base.specs.declared.item.Item.{Item};
@@ -76,6 +76,13 @@ fn is_built(item: &Item) -> bool
     }
 }
 
+// The time is below that of the front or the mark, which a record or a watermark may be at, but not below.
+fn is_below(time: u64, reached: u64) -> bool
+    ensures { result ≡ nat_lt time reached }
+{
+    time < reached
+}
+
 // The word that a line in no form is refused by.
 fn word_of(cause: Cause) -> Word
     ensures { result ≡ refusal_of_cause cause }
@@ -118,7 +125,7 @@ impl Session {
         ensures count { OnOk result (self.new.items ≡ self.old.items + 1) }
     {
         self.items += 1;
-        if given.time < self.front {
+        if is_below(given.time, self.front) {
             return Ok(refused(self.alloc, self.items, Word::Late));
         }
         keep(&self.queries, &mut self.pending, given)?;
@@ -140,7 +147,7 @@ impl Session {
         ensures count { OnOk result (self.new.items ≡ self.old.items + 1) }
     {
         self.items += 1;
-        if time < self.mark {
+        if is_below(time, self.mark) {
             return Ok(refused(self.alloc, self.items, Word::Back));
         }
         let passed = take_passed(self.alloc, &mut self.pending, time)?;

@@ -1,9 +1,14 @@
-ghost use Rattle.std.specs.Prelude.{ℕ, ◌≡◌, Ok, IsTrue};
+ghost use Rattle.std.specs.Prelude.{ℕ, ◌≡◌, List, Ok, IsTrue};
+ghost use Rattle.as_base.specs.Query.{holds_all};
+ghost use Rattle.as_base.specs.declared.item.Given.{Given};
+ghost use Rattle.query_text.specs.declared.ast.Cond.{Cond};
 ghost use Rattle.as_base.specs.Text.{is_text};
 ghost use Rattle.as_base.specs.declared.query.Plan.{Plan};
 ghost use Rattle.query_text.specs.declared.ast.Ast.{Ast};
-ghost use Rattle.query_text.specs.Spelling.{IsTreeOf};
+ghost use Rattle.query_text.specs.Spelling.{FitsConds, IsTreeOf};
 ghost use Rattle.query_text.specs.Reading.{text_words};
+ghost use Rattle.query_plan.specs.Limits.{bounds_of};
+ghost use Rattle.query_plan.specs.Meaning.{meets_all, FitsGiven};
 ghost use Rattle.query_plan.specs.Planning.{IsTree, plan_of};
 ghost use Rattle.query_plan.specs.Canonical.{IsCanonical, FitsPlan};
 ghost use Rattle.query_plan.specs.Text.{canonical_text};
@@ -21,4 +26,9 @@ pub fn explained_plans_are_texts()
 /// Each plan of a tree that some text has is canonical and fits.
 pub fn plans_are_canonical()
     ensures { (streams : ℕ) (ast : Ast) (p : Plan) → IsTree ast → plan_of streams ast ≡ Ok p → IsCanonical p × FitsPlan p }
+{}
+
+/// A record is within the intervals that conditions leave just where it meets each of the conditions.
+pub fn bounds_are_their_conditions()
+    ensures { (cs : List Cond) (g : Given) → FitsConds cs → FitsGiven g → holds_all (bounds_of cs) g ≡ meets_all cs g }
 {}

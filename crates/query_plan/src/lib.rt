@@ -8,7 +8,10 @@ mod planning;
 mod words;
 
 pub use explaining::explain;
-pub use laws::{explained_plans_are_read, explained_plans_are_texts, plans_are_canonical};
+pub use laws::{
+    bounds_are_their_conditions, explained_plans_are_read, explained_plans_are_texts,
+    plans_are_canonical,
+};
 pub use planning::{Misfit, plan};
 
 #[cfg(test)]

@@ -1,4 +1,5 @@
 use Rattle.std.proofs.Common.{◌+◌, [], ◌∷◌, ◌++◌, None, sym, ap, subst, subst₂, ◌∙◌}
+use Rattle.std.proofs.lemmas.Bool.{ltb-true, ltb-false}
 use Rattle.as_base.specs.declared.item.Item.TheVariants.{Rec}
 use Rattle.astream_top.specs.Setup.{run_setup}
 use Rattle.astream_top.specs.Kept.{kept_with}
@@ -7,9 +8,9 @@ use Rattle.astream_top.specs.Session.{Stands}
 use Rattle.astream_top.proofs.Steps.{late-step, kept-step}
 use Rattle.astream_top.proofs.session.Session.take_record.Goals as goal
 
-pub returns-then-given-self-clause-stands : goal.returns-then-given-self-clause-stands
-returns-then-given-self-clause-stands c = λ h s.
-    let p = late-step h c.args.given.now _ _ _ _ _ _ s c.requires.stream c.requires.range c.if-given-self.true in
+pub returns-then-is_below-clause-stands : goal.returns-then-is_below-clause-stands
+returns-then-is_below-clause-stands c = λ h s.
+    let p = late-step h c.args.given.now _ _ _ _ _ _ s c.requires.stream c.requires.range (ltb-true c.args.given.now.time c.args.self.now.front (sym c.is_below.ensures ∙ c.if-is_below.true)) in
     (p.0, subst (IsStep run_setup h (Rec c.args.given.now)) (sym c.refused.ensures) p.1)
 
 pub returns-clause-stands : goal.returns-clause-stands
@@ -17,7 +18,7 @@ returns-clause-stands c = λ h s.
     let given = c.args.given.now in
     let old = c.args.self.now in
     let kept = c.in_ok-keep.ensures ∙ ap (λ l. kept_with l old.pending.items given) c.deref.ensures.value in
-    let p = kept-step h given _ _ _ _ _ _ s c.requires.stream c.requires.range c.if-given-self.false in (
+    let p = kept-step h given _ _ _ _ _ _ s c.requires.stream c.requires.range (ltb-false given.time old.front (sym c.is_below.ensures ∙ c.if-is_below.false)) in (
       subst₂ (λ t l. Stands (h ++ Rec given ∷ []) (old.items + 1) given.time old.mark t old.queries.items l) (sym c.max-self.ensures) (sym kept) p.0,
       subst (λ l. IsStep run_setup h (Rec given) (record { answer = None; pieces = l })) (sym (c.from_vec.ensures ∙ c.new.ensures.items)) p.1,
     )
