@@ -1,7 +1,7 @@
 -- What each item does to what a session stands for, and what it adds.
 use Rattle.std.proofs.Common.{◌≡◌, ℕ, ◌+◌, ◌≤◌, ◌<◌, ◌||◌, ◌&&◌, max, nat_lt, eqb, Bool, true, false, true≢false, not, cond, Result, Ok, Err, Option, Some, None, is_none, List, [], ◌∷◌, ◌++◌, map, length, refl, sym, ap, ap₂, subst, ◌∙◌, append-nil, arith}
 use Rattle.std.specs.List.{AllByRecursion}
-use Rattle.std.proofs.lemmas.Bool.{lt-ltb, le-ltb}
+use Rattle.std.proofs.lemmas.Bool.{and_parts, lt-ltb, le-ltb}
 use Rattle.std.proofs.lemmas.Bool.Decides.{nat_tests}
 use Rattle.std.proofs.lemmas.Grind.{flat_map-append}
 use Rattle.std.proofs.lemmas.List.{length_push, length-map, map-append}
@@ -377,10 +377,6 @@ left-a plan ok = place-a plan.left (and_parts (is_select plan.kind) (eqb (place_
     place-a B e = absurd (true≢false (sym e))
     place-a C e = absurd (true≢false (sym e))
     place-a D e = absurd (true≢false (sym e))
-
-    and_parts : (a b : Bool) → (a && b) ≡ true → (a ≡ true) × (b ≡ true)
-    and_parts true b e = (refl, e)
-    and_parts false b e = absurd (true≢false (sym e))
 
 All-given : (P : Given → Type 0) (rs : List Record) → AllByRecursion (λ (r : Record). P r.given) rs → AllByRecursion P (map (λ (r : Record). r.given) rs)
 All-given P [] h = tt

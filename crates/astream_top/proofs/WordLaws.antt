@@ -1,16 +1,12 @@
 -- The words of a call, joined.
 use Rattle.std.proofs.Common.{◌≡◌, ℕ, ◌+◌, ◌≤◌, ◌<◌, ◌&&◌, not, eqb, nat_le, Bool, true, false, true≢false, List, [], ◌∷◌, ◌++◌, map, length, length-append, get_or, take, drop, codes, refl, sym, ap, ◌∙◌, append-nil, arith}
 use Rattle.std.specs.List.{list_all, join_by, flat_map}
-use Rattle.std.proofs.lemmas.Bool.{leb-true, le-leb, lt-leb}
+use Rattle.std.proofs.lemmas.Bool.{and_parts, leb-true, le-leb, lt-leb}
 use Rattle.std.proofs.lemmas.List.{map-append, take_more, take-append-drop}
 use Rattle.as_base.specs.Text.{is_word_byte, is_spaced, is_text}
 use Rattle.query_plan.specs.Text.{spaced, joined}
 use Rattle.query_plan.proofs.WordLaws.{past_byte, past_word, some_text, spaced-append}
 use Rattle.astream_top.specs.Words.{is_word, are_text}
-
-both : (a b : Bool) → (a && b) ≡ true → (a ≡ true) × (b ≡ true)
-both true b e = (refl, e)
-both false b e = absurd (true≢false (sym e))
 
 some_byte : (w : List ℕ) → is_word w ≡ true → 0 < length w
 some_byte [] h = absurd (true≢false (sym h))
@@ -19,21 +15,21 @@ some_byte (b ∷ w) h = omega arith
 first_word : (w bytes : List ℕ) → is_word w ≡ true → is_spaced false (w ++ bytes) ≡ is_spaced true bytes
 first_word [] bytes h = absurd (true≢false (sym h))
 first_word (b ∷ w) bytes h =
-    let parts = both (is_word_byte b) (list_all is_word_byte w) (both (not (eqb (length (b ∷ w)) 0)) (list_all is_word_byte (b ∷ w)) h).1 in
+    let parts = and_parts (is_word_byte b) (list_all is_word_byte w) (and_parts (not (eqb (length (b ∷ w)) 0)) (list_all is_word_byte (b ∷ w)) h).1 in
     past_byte b (w ++ bytes) false parts.0 ∙ past_word w bytes parts.1
 
 further_words : (ws : List (List ℕ)) → list_all is_word ws ≡ true → is_spaced true (spaced ws) ≡ true
 further_words [] h = refl
 further_words (w ∷ ws) h =
-    let parts = both (is_word w) (list_all is_word ws) h in
+    let parts = and_parts (is_word w) (list_all is_word ws) h in
     first_word w (spaced ws) parts.0 ∙ further_words ws parts.1
 
 -- the words of a text, joined, are a text
 pub text-joined : (ws : List (List ℕ)) → are_text ws ≡ true → is_text (joined ws) ≡ true
 text-joined [] h = refl
 text-joined (w ∷ ws) h =
-    let fits = both (list_all is_word (w ∷ ws)) (nat_le (length (joined (w ∷ ws))) 4089) h in
-    let parts = both (is_word w) (list_all is_word ws) fits.0 in
+    let fits = and_parts (list_all is_word (w ∷ ws)) (nat_le (length (joined (w ∷ ws))) 4089) h in
+    let parts = and_parts (is_word w) (list_all is_word ws) fits.0 in
     some_text (w ++ spaced ws)
     (omega (arith, length-append w (spaced ws), some_byte w parts.0))
     (leb-true (length (w ++ spaced ws)) 4089 fits.1)
