@@ -1,1 +1,3 @@
-mod TextLaws
+pub mod TimesLaws
+pub mod WindowLaws
+pub mod RangeLaws

@@ -1,11 +1,7 @@
-use Rattle.std.specs.Prelude.{ℕ, ℤ, pos, ◌≤◌, ◌*◌, List, get_or, int_le, Bool, ◌&&◌}
+-- Which records are within bounds.
+use Rattle.std.specs.Prelude.{ℕ, ℤ, pos, List, get_or, int_le, Bool, ◌&&◌}
 use Rattle.as_base.specs.declared.item.Given.{Given}
-use Rattle.as_base.specs.declared.query.WinSpec.{WinSpec}
 use Rattle.as_base.specs.declared.query.Bounds.{Bounds}
-
--- the windows move on, leave no gap, are at most 2^32 ticks long, and at most 64 of them hold one time
-abbrev pub Fits : WinSpec → Type 0
-Fits w = (1 ≤ w.slide) × (w.slide ≤ w.size) × (w.size ≤ 4294967296) × (w.size ≤ 64 * w.slide)
 
 -- the value is in the interval, both ends included
 abbrev pub is_within : ℤ → ℤ → ℤ → Bool

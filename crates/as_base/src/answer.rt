@@ -41,14 +41,14 @@ pub struct Answer {
 }
 
 /// Bytes to be appended to the output of query `n`: whole rows.
-#[derive(Debug, Drop)]
+#[derive(Debug, PartialEq, Eq, Drop)]
 pub struct Piece {
     pub n: u64,
     pub bytes: Bytes,
 }
 
 /// What one item brings about: its answer, if it has one, and the pieces that it makes due, by rising query number.
-#[derive(Debug, Drop)]
+#[derive(Debug, PartialEq, Eq, Drop)]
 pub struct Fed {
     pub answer: Option<Answer>,
     pub pieces: Pieces,

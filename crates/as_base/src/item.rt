@@ -1,16 +1,7 @@
-use crate::Text;
+use crate::{StreamId, Text};
 
 /// The time after every time, in ticks: 2^62. A time is below it.
 pub const FOREVER: u64 = 4_611_686_018_427_387_904;
-
-/// One of the four input streams.
-#[derive(Clone, Copy, Debug, PartialEq, Eq)]
-pub enum StreamId {
-    A,
-    B,
-    C,
-    D,
-}
 
 /// A record as its line gives it: its stream, its time in ticks, its key and its values v1 to v4.
 #[derive(Clone, Copy, Debug, PartialEq, Eq)]

@@ -21,3 +21,12 @@ impl<T: Drop> From<AllocFailed<T>> for NoMemory {
         NoMemory
     }
 }
+
+/// Why an engine answers nothing.
+#[derive(Clone, Copy, Debug, PartialEq, Eq)]
+pub enum EngineFault {
+    /// There was no memory; the engine is stopped from here on.
+    NoMemory,
+    /// An earlier call found no memory.
+    Stopped,
+}

@@ -1,7 +1,7 @@
-ghost use Rattle.std.specs.Prelude.{◌≡◌, ◌↔◌, IsTrue};
-ghost use Rattle.as_base.specs.Query.{Fits, is_within, holds_front, holds_back, holds_all};
+ghost use Rattle.std.specs.Prelude.{◌≡◌};
+ghost use Rattle.as_base.specs.Query.{is_within, holds_front, holds_back, holds_all};
 
-use crate::{Given, StreamId};
+use crate::{Given, StreamId, WinSpec};
 
 /// One of the four values of a record.
 #[derive(Clone, Copy, Debug, PartialEq, Eq)]
@@ -44,13 +44,6 @@ pub struct Bounds {
     pub hi: [i64; 5],
 }
 
-/// The windows of a query: the length of each, and the distance from one start to the next, both in ticks.
-#[derive(Clone, Copy, Debug, PartialEq, Eq)]
-pub struct WinSpec {
-    pub size: u64,
-    pub slide: u64,
-}
-
 /// What a query is to do. The right side is that of a join; other kinds ignore it.
 #[derive(Clone, Copy, Debug, PartialEq, Eq)]
 pub struct Plan {
@@ -61,22 +54,6 @@ pub struct Plan {
     pub left_bounds: Bounds,
     pub right_bounds: Bounds,
     pub win: WinSpec,
-}
-
-/// The greatest size of a window, in ticks: 2^32.
-const SIZE_MAX: u64 = 4_294_967_296;
-
-impl WinSpec {
-    /// The windows are within the limits: they move on, leave no gap, are at most 2^32 ticks long, and at most 64 of
-    /// them hold one time.
-    pub fn fits(&self) -> bool
-        ensures { IsTrue result ↔ Fits self.now }
-    {
-        1 <= self.slide
-            && self.slide <= self.size
-            && self.size <= SIZE_MAX
-            && self.size <= 64 * self.slide
-    }
 }
 
 /// The value is in the interval.

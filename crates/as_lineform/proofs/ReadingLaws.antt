@@ -1,14 +1,14 @@
-use Rattle.std.proofs.Common.{◌≡◌, ◌↔◌, ℕ, ℤ, Bool, true, false, Option, Some, None, List, [], ◌∷◌, refl, sym, ap, ◌∙◌, option_map}
+-- The fields of a record, read word by word.
+use Rattle.std.proofs.Common.{◌≡◌, ◌↔◌, ◌^◌, ℕ, ℤ, Bool, true, false, Option, Some, None, List, [], ◌∷◌, refl, sym, ap, ◌∙◌, option_map}
 use Rattle.std.specs.Bool.{IsTrue, then_some}
-use Rattle.as_base.specs.declared.item.TheConstants.{FOREVER}
-use Rattle.as_base.specs.declared.item.StreamId.{StreamId}
+use Rattle.as_base.specs.declared.stream.StreamId.{StreamId}
 use Rattle.as_base.specs.declared.item.Given.{Given}
 use Rattle.as_words.specs.Number.{natural, integer}
 use Rattle.as_lineform.specs.Item.{◌>>=◌, given_of}
 use Rattle.as_lineform.specs.Reading.{next_by, next_four}
 use Rattle.std.proofs.Common.{to_z, of_z, w64}
 use Rattle.std.proofs.lemmas.Int.{to_z-of_z}
-use Rattle.as_words.proofs.NumberLaws.{integer-fits}
+use Rattle.as_words.proofs.NumberLaws.{mag-signed, spells-integer}
 
 bind_map : {X Y Z : Type 0} (o : Option X) (g : X → Y) (k : Y → Option Z) → (option_map g o >>= k) ≡ (o >>= (λ x. k (g x)))
 bind_map None g k = refl
@@ -89,11 +89,11 @@ four_then-bind a b c d left k =
 abbrev pub made : StreamId → ℕ → ℤ → List ℤ → Given
 made stream time key v = record { stream = stream; time = time; key = key; v = v }
 
-given_of-exact : (stream : StreamId) (t k a b c d : List ℕ) (time : ℕ) (key : ℤ) → natural FOREVER t ≡ Some time → integer k ≡ Some key
+given_of-exact : (stream : StreamId) (t k a b c d : List ℕ) (time : ℕ) (key : ℤ) → natural (2 ^ 62) t ≡ Some time → integer k ≡ Some key
     → given_of stream (t ∷ k ∷ a ∷ b ∷ c ∷ d ∷ []) ≡ four_then a b c d (λ v. Some (made stream time key v))
 given_of-exact stream t k a b c d time key et ek = rw (et, ek) refl
 
-short : (stream : StreamId) (t k : List ℕ) (left : List (List ℕ)) (time : ℕ) (key : ℤ) → natural FOREVER t ≡ Some time → integer k ≡ Some key → next_four left ≡ None
+short : (stream : StreamId) (t k : List ℕ) (left : List (List ℕ)) (time : ℕ) (key : ℤ) → natural (2 ^ 62) t ≡ Some time → integer k ≡ Some key → next_four left ≡ None
     → given_of stream (t ∷ k ∷ left) ≡ None
 short stream t k [] time key et ek none = refl
 short stream t k (a ∷ []) time key et ek none = refl
@@ -107,14 +107,14 @@ short stream t k (a ∷ b ∷ c ∷ d ∷ e ∷ left) time key et ek none = refl
 
 -- a record's words that end too early or are no numbers
 pub given_of-None : (stream : StreamId) (words : List (List ℕ)) (time : ℕ) (key : ℤ) (more left : List (List ℕ))
-    → next_by (natural FOREVER) words ≡ Some (time, more) → next_by integer more ≡ Some (key, left) → next_four left ≡ None → given_of stream words ≡ None
+    → next_by (natural (2 ^ 62)) words ≡ Some (time, more) → next_by integer more ≡ Some (key, left) → next_four left ≡ None → given_of stream words ≡ None
 given_of-None stream words time key more left et ek none =
-    let t = next_by-Some (natural FOREVER) words (time, more) et in
+    let t = next_by-Some (natural (2 ^ 62)) words (time, more) et in
     let k = next_by-Some integer more (key, left) ek in
     ap (given_of stream) (t.1 ∙ ap (λ ws. t.0 ∷ ws) k.1) ∙ short stream t.0 k.0 left time key t.2 k.2 none
 
 whole_or_long : (stream : StreamId) (t k a b c d : List ℕ) (time : ℕ) (key : ℤ) (v : List ℤ) (left : List (List ℕ)) (last : Bool)
-    → natural FOREVER t ≡ Some time → integer k ≡ Some key → next_four (a ∷ b ∷ c ∷ d ∷ left) ≡ Some (v, left) → IsTrue last ↔ (left ≡ [])
+    → natural (2 ^ 62) t ≡ Some time → integer k ≡ Some key → next_four (a ∷ b ∷ c ∷ d ∷ left) ≡ Some (v, left) → IsTrue last ↔ (left ≡ [])
     → then_some last (made stream time key v) ≡ given_of stream (t ∷ k ∷ a ∷ b ∷ c ∷ d ∷ left)
 whole_or_long stream t k a b c d time key v [] last et ek some ends =
     ap (λ o. then_some o (made stream time key v)) (ends.1 refl)
@@ -126,10 +126,10 @@ whole_or_long stream t k a b c d time key v (e ∷ left) false et ek some ends =
 
 -- a record's words, of which none is left, or some
 pub given_of-Some : (stream : StreamId) (words : List (List ℕ)) (time : ℕ) (key : ℤ) (v : List ℤ) (more four left : List (List ℕ)) (last : Bool)
-    → next_by (natural FOREVER) words ≡ Some (time, more) → next_by integer more ≡ Some (key, four) → next_four four ≡ Some (v, left) → IsTrue last ↔ (left ≡ [])
+    → next_by (natural (2 ^ 62)) words ≡ Some (time, more) → next_by integer more ≡ Some (key, four) → next_four four ≡ Some (v, left) → IsTrue last ↔ (left ≡ [])
     → then_some last (made stream time key v) ≡ given_of stream words
 given_of-Some stream words time key v more four left last et ek ev ends =
-    let t = next_by-Some (natural FOREVER) words (time, more) et in
+    let t = next_by-Some (natural (2 ^ 62)) words (time, more) et in
     let k = next_by-Some integer more (key, four) ek in
     let w = next_four-Some four v left ev in
     whole_or_long stream t.0 k.0 w.0 w.1 w.2 w.3 time key v left last t.2 k.2 (ap next_four (sym w.4) ∙ ev) ends
@@ -139,4 +139,4 @@ given_of-Some stream words time key v more four left last et ek ev ends =
 pub through : (words : List (List ℕ)) (z : ℤ) (left : List (List ℕ)) → next_by integer words ≡ Some (z, left) → to_z w64 (of_z w64 z) ≡ z
 through words z left e =
     let n = next_by-Some integer words (z, left) e in
-    to_z-of_z w64 z (record { sfits = integer-fits n.0 z n.2 })
+    to_z-of_z w64 z (record { sfits = mag-signed z (spells-integer n.0 z n.2).0 })

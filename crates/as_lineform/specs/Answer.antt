@@ -1,3 +1,4 @@
+-- The texts of answers.
 use Rattle.std.specs.Prelude.{ℕ, List, ◌++◌, codes, decimal}
 use Rattle.as_base.specs.declared.answer.Word.{Word}
 use Rattle.as_base.specs.declared.answer.Word.TheVariants.{Created, Deleted, Long, Form, Stranger, Ended, Late, Back, Syntax, Twin, Window, Full, Unknown, Later}
@@ -21,5 +22,5 @@ word_text Unknown = codes "unknown"
 word_text Later = codes "later"
 
 -- the text of an answer: its line's number, its word, a line feed
-abbrev pub text_of : Answer → List ℕ
-text_of a = decimal a.line ++ codes " " ++ word_text a.word ++ codes "\n"
+abbrev pub answer_text : Answer → List ℕ
+answer_text a = decimal a.line ++ codes " " ++ word_text a.word ++ codes "\n"

@@ -1,35 +1,26 @@
-use Rattle.std.specs.Prelude.{ℕ, false, ◌^◌, ◌&&◌, nat_lt, if◌then◌else◌, Option, Some, None, List, [], ◌∷◌, length, take, drop, codes, unwrap_or}
+-- The item that a line says: its forms and their fields.
+use Rattle.std.specs.Prelude.{ℕ, ◌^◌, ◌&&◌, nat_lt, if◌then◌else◌, Option, Some, None, List, [], ◌∷◌, length, take, drop, codes, unwrap_or}
 use Rattle.std.specs.Option.{option_and_then, option_map, option_map_or}
 use Rattle.std.specs.Str.{bytes_eq}
-use Rattle.as_base.specs.Text.{is_spaced}
-use Rattle.as_base.specs.declared.item.TheConstants.{FOREVER}
-use Rattle.as_base.specs.declared.item.StreamId.{StreamId}
-use Rattle.as_base.specs.declared.item.StreamId.TheVariants.{A, B, C, D}
+use Rattle.as_base.specs.Stream.{stream_named}
+use Rattle.as_base.specs.declared.stream.StreamId.{StreamId}
 use Rattle.as_base.specs.declared.item.Given.{Given}
 use Rattle.as_base.specs.declared.item.Cause.TheVariants.{Long, Form}
 use Rattle.as_base.specs.declared.item.Item.{Item}
 use Rattle.as_base.specs.declared.item.Item.TheVariants.{Rec, Mark, End, Create, Delete, Bad}
-use Rattle.as_lineform.specs.declared.item.TheConstants.{LINE_MAX}
 use Rattle.as_words.specs.Parts.{parts_of}
 use Rattle.as_words.specs.Number.{natural, integer}
+use Rattle.as_words.specs.Words.{is_words}
 
 infixl 10 ◌>>=◌
+-- what the second reads with the first's result, if both read something
 abbrev pub ◌>>=◌ : {X Y : Type 0} → Option X → (X → Option Y) → Option Y
 o >>= f = option_and_then f o
-
--- the stream of this name
-abbrev pub stream_of : List ℕ → Option StreamId
-stream_of word =
-    if bytes_eq word (codes "a") then Some A
-    else (if bytes_eq word (codes "b") then Some B
-    else (if bytes_eq word (codes "c") then Some C
-    else (if bytes_eq word (codes "d") then Some D
-    else None)))
 
 -- the record of the stream whose words after the stream's are these
 abbrev pub given_of : StreamId → List (List ℕ) → Option Given
 given_of stream (time ∷ key ∷ v1 ∷ v2 ∷ v3 ∷ v4 ∷ []) = do
-  t ← natural FOREVER time
+  t ← natural (2 ^ 62) time
   k ← integer key
   x1 ← integer v1
   x2 ← integer v2
@@ -52,13 +43,13 @@ end_of stream _ = None
 abbrev pub item_of_stream : List ℕ → List (List ℕ) → StreamId → Option Item
 item_of_stream form fields stream =
     if bytes_eq form (codes "rec") then option_map Rec (given_of stream fields)
-    else (if bytes_eq form (codes "mark") then option_map (Mark stream) (alone_of FOREVER fields)
+    else (if bytes_eq form (codes "mark") then option_map (Mark stream) (alone_of (2 ^ 62) fields)
     else (if bytes_eq form (codes "end") then end_of stream fields
     else None))
 
 -- the item of a form with the words after it, of which the first names a stream
 abbrev pub item_of_form : List ℕ → List (List ℕ) → Option Item
-item_of_form form (stream ∷ fields) = stream_of stream >>= item_of_stream form fields
+item_of_form form (stream ∷ fields) = stream_named stream >>= item_of_stream form fields
 item_of_form form [] = None
 
 -- the item of a line's words, if they are not a creation's
@@ -72,7 +63,7 @@ item_of_words [] = None
 abbrev pub creation_of : List ℕ → Option (List ℕ)
 creation_of line =
     if bytes_eq line (codes "create") then Some []
-    else (if bytes_eq (take 7 line) (codes "create ") && is_spaced false (drop 7 line) then Some (drop 7 line)
+    else (if bytes_eq (take 7 line) (codes "create ") && is_words (drop 7 line) then Some (drop 7 line)
     else None)
 
 -- the item of a line that is not too long
@@ -80,8 +71,8 @@ abbrev pub item_of_short : List ℕ → Item
 item_of_short line = option_map_or Create (creation_of line) (unwrap_or (item_of_words (parts_of 32 line)) (Bad Form))
 
 -- the item that a line says
-abbrev pub item_of_line : List ℕ → Item
-item_of_line line = if nat_lt LINE_MAX (length line) then Bad Long else item_of_short line
+abbrev pub item_of : List ℕ → Item
+item_of line = if nat_lt 4096 (length line) then Bad Long else item_of_short line
 
 -- the item is a creation, which alone takes memory
 abbrev pub IsCreation : Item → Type 0

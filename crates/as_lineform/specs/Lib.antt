@@ -4,3 +4,5 @@ pub mod Reading
 pub mod Lines
 pub mod Cutter
 pub mod Answer
+pub use Rattle.as_base.specs.Range
+pub use Rattle.as_words.specs.Appends

@@ -1,30 +1,23 @@
-ghost use Rattle.std.specs.Prelude.{◌≡◌, ◌++◌, codes, decimal, OnOk, OnErr};
-ghost use Rattle.as_words.specs.Grows.{Grows};
-ghost use Rattle.as_lineform.specs.Answer.{word_text, text_of};
+ghost use Rattle.std.specs.Prelude.{◌++◌, codes, decimal};
+ghost use Rattle.as_words.specs.Appends.{Appends, AppendsPrefix};
+ghost use Rattle.as_lineform.specs.Answer.{word_text, answer_text};
 
 use as_base::{Answer, NoMemory, Word};
-use as_words::append_decimal;
+use as_words::{append_decimal, whole_or_none};
 use std::alloc::AllocError;
 
 /// Appends the text of an answer, with its line feed. The one refusal is `NoMemory`, after which `out` is unchanged.
 pub fn answer_text(a: &Answer, out: &mut Vec<u8>) -> Result<(), NoMemory>
-    ensures ok { OnOk result (out.new.items ≡ out.old.items ++ text_of a.now) }
-    ensures err { OnErr result (out.new.items ≡ out.old.items) }
+    ensures { Appends result out.old.items out.new.items (answer_text a.now) }
 {
     let start = out.len();
-    match append_answer(a, out) {
-        Ok(()) => Ok(()),
-        Err(_) => {
-            out.truncate(start);
-            Err(NoMemory)
-        }
-    }
+    let appended = append_answer(a, out);
+    Ok(whole_or_none(appended, start, out)?)
 }
 
-/// Appends the text of an answer, or some front of it.
+// Appends the text of an answer, or a prefix of it.
 fn append_answer(a: &Answer, out: &mut Vec<u8>) -> Result<(), AllocError>
-    ensures ok { OnOk result (out.new.items ≡ out.old.items ++ text_of a.now) }
-    ensures err { OnErr result (Grows out.old.items out.new.items) }
+    ensures { AppendsPrefix result out.old.items out.new.items (answer_text a.now) }
 {
     append_decimal(a.line, out)?;
     out.extend_from_slice(b" ")?;
@@ -32,10 +25,9 @@ fn append_answer(a: &Answer, out: &mut Vec<u8>) -> Result<(), AllocError>
     out.extend_from_slice(b"\n")
 }
 
-/// Appends the text of a word, as `later` or `syntax 3`. After want of memory `out` may have grown by a front of it.
+/// Appends the text of a word, as `later` or `syntax 3`. After want of memory `out` may have grown by a prefix of it.
 pub fn append_word(word: Word, out: &mut Vec<u8>) -> Result<(), AllocError>
-    ensures ok { OnOk result (out.new.items ≡ out.old.items ++ word_text word) }
-    ensures err { OnErr result (Grows out.old.items out.new.items) }
+    ensures { AppendsPrefix result out.old.items out.new.items (word_text word) }
 {
     match word {
         Word::Created { n, at } => append_event(b"created ", n, at, out),
@@ -55,10 +47,9 @@ pub fn append_word(word: Word, out: &mut Vec<u8>) -> Result<(), AllocError>
     }
 }
 
-/// Appends what happened to a query and when, or some front of it.
+// Appends what happened to a query and when, or a prefix of it.
 fn append_event(event: &[u8], n: u64, at: u64, out: &mut Vec<u8>) -> Result<(), AllocError>
-    ensures ok { OnOk result (out.new.items ≡ out.old.items ++ event.now ++ decimal n ++ codes " at " ++ decimal at) }
-    ensures err { OnErr result (Grows out.old.items out.new.items) }
+    ensures { AppendsPrefix result out.old.items out.new.items (event.now ++ decimal n ++ codes " at " ++ decimal at) }
 {
     out.extend_from_slice(event)?;
     append_decimal(n, out)?;
@@ -66,10 +57,9 @@ fn append_event(event: &[u8], n: u64, at: u64, out: &mut Vec<u8>) -> Result<(), 
     append_decimal(at, out)
 }
 
-/// Appends where a query text is outside the grammar, or some front of it.
+// Appends where a query text is outside the grammar, or a prefix of it.
 fn append_syntax(k: u32, out: &mut Vec<u8>) -> Result<(), AllocError>
-    ensures ok { OnOk result (out.new.items ≡ out.old.items ++ codes "syntax " ++ decimal k) }
-    ensures err { OnErr result (Grows out.old.items out.new.items) }
+    ensures { AppendsPrefix result out.old.items out.new.items (codes "syntax " ++ decimal k) }
 {
     out.extend_from_slice(b"syntax ")?;
     append_decimal(u64::from(k), out)

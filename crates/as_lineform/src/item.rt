@@ -1,18 +1,17 @@
 ghost use Rattle.std.specs.Prelude.{◌≡◌, ◌^◌, IfOk, OnErr, None, Some, MatchOption};
-ghost use Rattle.as_base.specs.Range.{InRange};
-ghost use Rattle.as_base.specs.declared.item.TheConstants.{FOREVER};
-ghost use Rattle.as_lineform.specs.Item.{given_of, alone_of, stream_of, item_of_stream, item_of_words, creation_of, item_of_line, IsCreation};
+ghost use Rattle.as_base.specs.Range.{IsSpelled};
+ghost use Rattle.as_lineform.specs.Item.{given_of, alone_of, item_of_stream, item_of_words, creation_of, item_of, IsCreation};
 
 use crate::reading::{next_below, next_four, next_integer};
-use as_base::{Cause, FOREVER, Given, Item, NoMemory, StreamId, Text, is_words};
-use as_words::{LEAST, Words};
+use as_base::{Cause, FOREVER, Given, Item, NoMemory, StreamId, Text, stream_named};
+use as_words::{LEAST, Words, is_words};
 use std::alloc::Global;
 
 /// How many bytes a line may have.
 pub const LINE_MAX: usize = 4096;
 
-/// The record of the stream, if the words that are left are its six numbers.
-fn given(stream: StreamId, mut words: Words<'_>) -> Option<Given>
+// The record of the stream, if the words that are left are its six numbers.
+fn given_of(stream: StreamId, mut words: Words<'_>) -> Option<Given>
     ensures { result ≡ given_of stream words.entry }
 {
     let time = next_below(&mut words, FOREVER)?;
@@ -26,39 +25,22 @@ fn given(stream: StreamId, mut words: Words<'_>) -> Option<Given>
     })
 }
 
-/// The number below the limit, if one word is left, which spells it.
-fn alone(mut words: Words<'_>, limit: u64) -> Option<u64>
+// The number below the limit, if one word is left, which spells it.
+fn alone_of(mut words: Words<'_>, limit: u64) -> Option<u64>
     ensures { result ≡ alone_of limit words.entry }
 {
     let number = next_below(&mut words, limit)?;
     words.is_empty().then_some(number)
 }
 
-/// The stream of this name.
-fn stream_named(word: &[u8]) -> Option<StreamId>
-    ensures { result ≡ stream_of word.now }
-{
-    if word == b"a".as_slice() {
-        Some(StreamId::A)
-    } else if word == b"b".as_slice() {
-        Some(StreamId::B)
-    } else if word == b"c".as_slice() {
-        Some(StreamId::C)
-    } else if word == b"d".as_slice() {
-        Some(StreamId::D)
-    } else {
-        None
-    }
-}
-
-/// What a line of this form says of the stream, if the words that are left are the form's.
-fn said_of(form: &[u8], stream: StreamId, words: Words<'_>) -> Option<Item>
+// What a line of this form says of the stream, if the words that are left are the form's.
+fn item_of_stream(form: &[u8], stream: StreamId, words: Words<'_>) -> Option<Item>
     ensures { result ≡ item_of_stream form.now words.entry stream }
 {
     if form == b"rec".as_slice() {
-        given(stream, words).map(Item::Rec)
+        given_of(stream, words).map(Item::Rec)
     } else if form == b"mark".as_slice() {
-        alone(words, FOREVER).map(|time| Item::Mark(stream, time))
+        alone_of(words, FOREVER).map(|time| Item::Mark(stream, time))
     } else if form == b"end".as_slice() {
         words.is_empty().then_some(Item::End(stream))
     } else {
@@ -66,20 +48,20 @@ fn said_of(form: &[u8], stream: StreamId, words: Words<'_>) -> Option<Item>
     }
 }
 
-/// The item that the words say, if they are not a creation's.
-fn said(mut words: Words<'_>) -> Option<Item>
+// The item that the words say, if they are not a creation's.
+fn item_of_words(mut words: Words<'_>) -> Option<Item>
     ensures { result ≡ item_of_words words.entry }
 {
     let form = words.next()?;
     if form == b"delete".as_slice() {
-        return alone(words, LEAST).map(Item::Delete);
+        return alone_of(words, LEAST).map(Item::Delete);
     }
     let stream = stream_named(words.next()?)?;
-    said_of(form, stream, words)
+    item_of_stream(form, stream, words)
 }
 
-/// The query text of a creation.
-fn creation(line: &[u8]) -> Option<&[u8]>
+// The query text of a creation.
+fn creation_of(line: &[u8]) -> Option<&[u8]>
     ensures { MatchOption result (creation_of line.now ≡ None) (λ text. creation_of line.now ≡ Some text.now) }
 {
     if line == b"create".as_slice() {
@@ -89,18 +71,18 @@ fn creation(line: &[u8]) -> Option<&[u8]>
     is_words(text).then_some(text)
 }
 
-/// The item that a line says. A line in no form is `Bad`, so the one refusal is `NoMemory`, which comes only for a
-/// creation and changes nothing.
+/// The item that a line says, whose numbers and text are in the ranges of the line format. A line in no form is `Bad`, so
+/// the one refusal is `NoMemory`, which comes only for a creation and changes nothing.
 pub fn item_of(alloc: Global, line: &[u8]) -> Result<Item, NoMemory>
-    ensures item { IfOk result (λ item. item ≡ item_of_line line.now) }
-    ensures range { IfOk result InRange }
-    ensures cause { OnErr result (IsCreation (item_of_line line.now)) }
+    ensures item { IfOk result (λ item. item ≡ item_of line.now) }
+    ensures range { IfOk result IsSpelled }
+    ensures cause { OnErr result (IsCreation (item_of line.now)) }
 {
     if line.len() > LINE_MAX {
         return Ok(Item::Bad(Cause::Long));
     }
-    match creation(line) {
+    match creation_of(line) {
         Some(text) => Ok(Item::Create(Text::from_vec(text.to_vec(alloc)?))),
-        None => Ok(said(Words::new(line)).unwrap_or(Item::Bad(Cause::Form))),
+        None => Ok(item_of_words(Words::new(line)).unwrap_or(Item::Bad(Cause::Form))),
     }
 }

@@ -2,14 +2,14 @@
 #![tactic(auto)]
 
 mod answer;
-mod cutter;
 mod item;
+mod lines;
 mod reading;
 mod spelling;
 
 pub use answer::{answer_text, append_word};
-pub use cutter::{Lines, Step};
 pub use item::{LINE_MAX, item_of};
+pub use lines::{Lines, Step};
 pub use spelling::{each_item_has_one_spelling, item_text, written_lines_are_read};
 
 #[cfg(test)]

@@ -1,48 +1,45 @@
-ghost use Rattle.std.specs.Prelude.{◌≡◌, ◌++◌, ◌∷◌, [], ◌↔◌, List, ℕ, ℤ, codes, map, OnOk, OnErr, ◌<◌, length};
-ghost use Rattle.std.specs.Fmt.{signed_decimal};
+ghost use Rattle.std.specs.Prelude.{◌≡◌, [], ◌∷◌, ◌++◌, ◌↔◌, List, ℕ, ◌<◌, length, decimal};
 ghost use Rattle.as_base.specs.declared.item.Item.{Item};
-ghost use Rattle.as_lineform.specs.declared.item.TheConstants.{LINE_MAX};
-ghost use Rattle.as_words.specs.Grows.{Grows};
-ghost use Rattle.as_lineform.specs.Item.{item_of_line};
-ghost use Rattle.as_lineform.specs.Spelling.{name_of, spaced, line_of, IsRead, IsSpelled};
+ghost use Rattle.as_words.specs.Appends.{Appends, AppendsPrefix};
+ghost use Rattle.as_lineform.specs.Item.{item_of};
+ghost use Rattle.as_base.specs.Range.{IsSpelled};
+ghost use Rattle.as_base.specs.Stream.{stream_name};
+ghost use Rattle.as_words.specs.Words.{spaced};
+ghost use Rattle.as_lineform.specs.Spelling.{item_text, IsRead};
 
 use crate::item::LINE_MAX;
-use as_base::{Cause, Given, Item, NoMemory, StreamId};
-use as_words::{append_spaced, append_spaced_decimal, append_spaced_signed};
+use as_base::{Cause, Given, Item, NoMemory, StreamId, stream_name};
+use as_words::{
+    append_spaced, append_spaced_decimal, append_spaced_numbers, append_spaced_signed,
+    whole_or_none,
+};
 use std::alloc::AllocError;
 
 /// Appends a line whose item is this one, without its line feed. The one refusal is `NoMemory`, after which `out` is
 /// unchanged.
 pub fn item_text(item: &Item, out: &mut Vec<u8>) -> Result<(), NoMemory>
-    ensures ok { OnOk result (out.new.items ≡ out.old.items ++ line_of item.now) }
-    ensures err { OnErr result (out.new.items ≡ out.old.items) }
+    ensures { Appends result out.old.items out.new.items (item_text item.now) }
 {
     let start = out.len();
-    match append_item(item, out) {
-        Ok(()) => Ok(()),
-        Err(_) => {
-            out.truncate(start);
-            Err(NoMemory)
-        }
-    }
+    let appended = append_item(item, out);
+    Ok(whole_or_none(appended, start, out)?)
 }
 
 /// What `item_text` writes of an item is read as this item.
 pub fn written_lines_are_read()
-    ensures { (i : Item) → IsSpelled i → item_of_line (line_of i) ≡ i }
+    ensures { (i : Item) → IsSpelled i → item_of (item_text i) ≡ i }
 {}
 
 /// A line in one of the forms is the one spelling of its item; of the others, those with more than 4,096 bytes are
 /// `Long`.
 pub fn each_item_has_one_spelling()
-    ensures one { (i : Item) (line : List ℕ) → IsRead i → (item_of_line line ≡ i) ↔ (IsSpelled i × (line ≡ line_of i)) }
-    ensures long { (line : List ℕ) → (item_of_line line ≡ Item.Bad Cause.Long) ↔ (LINE_MAX < length line) }
+    ensures one { (i : Item) (line : List ℕ) → IsRead i → (item_of line ≡ i) ↔ (IsSpelled i × (line ≡ item_text i)) }
+    ensures long { (line : List ℕ) → (item_of line ≡ Item.Bad Cause.Long) ↔ (4096 < length line) }
 {}
 
-/// Appends a line of the item, or some front of it.
+// Appends a line of the item, or a prefix of it.
 fn append_item(item: &Item, out: &mut Vec<u8>) -> Result<(), AllocError>
-    ensures ok { OnOk result (out.new.items ≡ out.old.items ++ line_of item.now) }
-    ensures err { OnErr result (Grows out.old.items out.new.items) }
+    ensures { AppendsPrefix result out.old.items out.new.items (item_text item.now) }
 {
     match item {
         Item::Rec(given) => append_record(given, out),
@@ -55,41 +52,54 @@ fn append_item(item: &Item, out: &mut Vec<u8>) -> Result<(), AllocError>
     }
 }
 
-/// Appends a record's line, or some front of it.
-fn append_record(given: &Given, out: &mut Vec<u8>) -> Result<(), AllocError>
-    ensures ok { OnOk result (out.new.items ≡ out.old.items ++ line_of (Item.Rec given.now)) }
-    ensures err { OnErr result (Grows out.old.items out.new.items) }
+// Appends a form's name, a space and the stream's name, or a prefix of them.
+fn append_form(form: &[u8], stream: StreamId, out: &mut Vec<u8>) -> Result<(), AllocError>
+    ensures { AppendsPrefix result out.old.items out.new.items (form.now ++ 32 ∷ stream_name stream) }
 {
-    out.extend_from_slice(b"rec")?;
-    append_stream(given.stream, out)?;
-    append_spaced_decimal(given.time, out)?;
-    append_spaced_signed(given.key, out)?;
-    append_integers(&given.v, out)
+    out.extend_from_slice(form)?;
+    append_spaced(stream_name(stream), out)
 }
 
-/// Appends a watermark's line, or some front of it.
-fn append_mark(stream: StreamId, time: u64, out: &mut Vec<u8>) -> Result<(), AllocError>
-    ensures ok { OnOk result (out.new.items ≡ out.old.items ++ line_of (Item.Mark stream time)) }
-    ensures err { OnErr result (Grows out.old.items out.new.items) }
+// Appends a form's name, the stream's and the time, each after a space but the first, or a prefix of them.
+fn append_timed(
+    form: &[u8],
+    stream: StreamId,
+    time: u64,
+    out: &mut Vec<u8>,
+) -> Result<(), AllocError>
+    ensures { AppendsPrefix result out.old.items out.new.items
+        (form.now ++ spaced (stream_name stream ∷ decimal time ∷ [])) }
 {
-    out.extend_from_slice(b"mark")?;
-    append_stream(stream, out)?;
+    append_form(form, stream, out)?;
     append_spaced_decimal(time, out)
 }
 
-/// Appends the line of a stream's end, or some front of it.
-fn append_end(stream: StreamId, out: &mut Vec<u8>) -> Result<(), AllocError>
-    ensures ok { OnOk result (out.new.items ≡ out.old.items ++ line_of (Item.End stream)) }
-    ensures err { OnErr result (Grows out.old.items out.new.items) }
+// Appends a record's line, or a prefix of it.
+fn append_record(given: &Given, out: &mut Vec<u8>) -> Result<(), AllocError>
+    ensures { AppendsPrefix result out.old.items out.new.items (item_text (Item.Rec given.now)) }
 {
-    out.extend_from_slice(b"end")?;
-    append_stream(stream, out)
+    append_timed(b"rec", given.stream, given.time, out)?;
+    append_spaced_signed(given.key, out)?;
+    append_spaced_numbers(&given.v, out)
 }
 
-/// Appends a creation's line, or some front of it.
+// Appends a watermark's line, or a prefix of it.
+fn append_mark(stream: StreamId, time: u64, out: &mut Vec<u8>) -> Result<(), AllocError>
+    ensures { AppendsPrefix result out.old.items out.new.items (item_text (Item.Mark stream time)) }
+{
+    append_timed(b"mark", stream, time, out)
+}
+
+// Appends the line of a stream's end, or a prefix of it.
+fn append_end(stream: StreamId, out: &mut Vec<u8>) -> Result<(), AllocError>
+    ensures { AppendsPrefix result out.old.items out.new.items (item_text (Item.End stream)) }
+{
+    append_form(b"end", stream, out)
+}
+
+// Appends a creation's line, or a prefix of it.
 fn append_creation(text: &[u8], out: &mut Vec<u8>) -> Result<(), AllocError>
-    ensures ok { OnOk result (out.new.items ≡ out.old.items ++ line_of (Item.Create text.now)) }
-    ensures err { OnErr result (Grows out.old.items out.new.items) }
+    ensures { AppendsPrefix result out.old.items out.new.items (item_text (Item.Create text.now)) }
 {
     out.extend_from_slice(b"create")?;
     if text.is_empty() {
@@ -98,43 +108,17 @@ fn append_creation(text: &[u8], out: &mut Vec<u8>) -> Result<(), AllocError>
     append_spaced(text, out)
 }
 
-/// Appends a deletion's line, or some front of it.
+// Appends a deletion's line, or a prefix of it.
 fn append_deletion(n: u64, out: &mut Vec<u8>) -> Result<(), AllocError>
-    ensures ok { OnOk result (out.new.items ≡ out.old.items ++ line_of (Item.Delete n)) }
-    ensures err { OnErr result (Grows out.old.items out.new.items) }
+    ensures { AppendsPrefix result out.old.items out.new.items (item_text (Item.Delete n)) }
 {
     out.extend_from_slice(b"delete")?;
     append_spaced_decimal(n, out)
 }
 
-/// Appends the shortest line that is too long.
+// Appends the shortest line that is too long.
 fn append_long(out: &mut Vec<u8>) -> Result<(), AllocError>
-    ensures ok { OnOk result (out.new.items ≡ out.old.items ++ line_of (Item.Bad Cause.Long)) }
-    ensures err { OnErr result (out.new.items ≡ out.old.items) }
+    ensures { Appends result out.old.items out.new.items (item_text (Item.Bad Cause.Long)) }
 {
     out.extend_from_slice(&[b'-'; LINE_MAX + 1])
-}
-
-/// Appends a space and the stream's name, or some front of them.
-fn append_stream(stream: StreamId, out: &mut Vec<u8>) -> Result<(), AllocError>
-    ensures ok { OnOk result (out.new.items ≡ out.old.items ++ 32 ∷ name_of stream) }
-    ensures err { OnErr result (Grows out.old.items out.new.items) }
-{
-    match stream {
-        StreamId::A => out.extend_from_slice(b" a"),
-        StreamId::B => out.extend_from_slice(b" b"),
-        StreamId::C => out.extend_from_slice(b" c"),
-        StreamId::D => out.extend_from_slice(b" d"),
-    }
-}
-
-/// Appends the signed numbers, each after a space, or some front of them.
-fn append_integers(numbers: &[i64], out: &mut Vec<u8>) -> Result<(), AllocError>
-    ensures ok { OnOk result (out.new.items ≡ out.old.items ++ spaced (map signed_decimal numbers.now)) }
-    ensures err { OnErr result (Grows out.old.items out.new.items) }
-{
-    for number in numbers {
-        append_spaced_signed(*number, out)?;
-    }
-    Ok(())
 }

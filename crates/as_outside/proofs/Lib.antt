@@ -1,2 +1,5 @@
-pub mod Log
-pub mod Calls
+pub mod EntryLaws
+pub mod LogLaws
+pub mod FailureLaws
+pub mod OutputLaws
+pub mod MakesLaws

@@ -1,6 +1,10 @@
 pub mod Log
-pub mod Shelf
+pub mod Failures
+pub mod Entries
 pub mod Outputs
+pub mod Makes
 pub mod Report
 pub mod Script
-pub mod Memory
+pub mod CallLog
+pub use Rattle.as_words.specs.Prefix
+pub use Rattle.as_base.specs.Times

@@ -1,8 +1,8 @@
--- What a log of calls says: the bytes pulled, said and noted, the calls on each output, and what each output holds.
-use Rattle.std.specs.Prelude.{ℕ, ◌==◌, if◌then◌else◌, Bool, true, false, List, [], ◌∷◌, ◌++◌}
+-- What the calls of a log moved: the bytes pulled and said, and what each output holds.
+use Rattle.std.specs.Prelude.{ℕ, ◌==◌, ◌||◌, if◌then◌else◌, Bool, true, false, List, [], ◌∷◌, ◌++◌}
 use Rattle.std.specs.List.{flat_map, sum_by}
 use Rattle.as_outside.specs.declared.entry.Entry.{Entry}
-use Rattle.as_outside.specs.declared.entry.Entry.TheVariants.{Pulled, PullFailed, Said, SayFailed, Begun, BeginFailed, Put, PutFailed}
+use Rattle.as_outside.specs.declared.entry.Entry.TheVariants.{Pulled, PullFailed, Said, SayFailed, Noted, NoteFailed, Begun, BeginFailed, Put, PutFailed}
 
 abbrev pub pulled_by : Entry → List ℕ
 pulled_by (Pulled bytes) = bytes
@@ -21,10 +21,21 @@ said_by _ = []
 abbrev pub said : List Entry → List ℕ
 said log = flat_map said_by log
 
+-- the call is a pull, failed or not
 abbrev pub is_pull : Entry → Bool
 is_pull (Pulled bytes) = true
 is_pull PullFailed = true
 is_pull _ = false
+
+-- the call is a note, failed or not
+abbrev pub is_note : Entry → Bool
+is_note (Noted bytes) = true
+is_note (NoteFailed bytes) = true
+is_note _ = false
+
+-- the call is a cue, a pull or a note: all that is due has to be out before it
+abbrev pub is_cue : Entry → Bool
+is_cue e = is_pull e || is_note e
 
 -- 1 where the call is a begin of output n, failed or not
 abbrev pub begun_by : ℕ → Entry → ℕ
@@ -46,24 +57,6 @@ put_by n _ = 0
 abbrev pub puts : ℕ → List Entry → ℕ
 puts n log = sum_by (put_by n) log
 
--- 1 where the call is a failed begin or put of output n
-abbrev pub failed_on : ℕ → Entry → ℕ
-failed_on n (BeginFailed m) = if m == n then 1 else 0
-failed_on n (PutFailed m bytes) = if m == n then 1 else 0
-failed_on n _ = 0
-
--- how often a call on output n failed
-abbrev pub failures : ℕ → List Entry → ℕ
-failures n log = sum_by (failed_on n) log
-
-abbrev pub say_failed_by : Entry → ℕ
-say_failed_by (SayFailed bytes) = 1
-say_failed_by _ = 0
-
--- how often a say failed
-abbrev pub say_failures : List Entry → ℕ
-say_failures log = sum_by say_failed_by log
-
 -- what output n holds after a call, if it held these bytes before
 abbrev pub held_after : ℕ → List ℕ → Entry → List ℕ
 held_after n bytes (Begun m) = if m == n then [] else bytes
@@ -71,6 +64,7 @@ held_after n bytes (Put m added) = if m == n then bytes ++ added else bytes
 held_after n bytes (PutFailed m added) = if m == n then bytes ++ added else bytes
 held_after n bytes _ = bytes
 
+-- what it holds after these calls, if it held these bytes before
 abbrev pub held_from : ℕ → List ℕ → List Entry → List ℕ
 held_from n bytes [] = bytes
 held_from n bytes (e ∷ log) = held_from n (held_after n bytes e) log

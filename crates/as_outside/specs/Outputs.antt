@@ -1,13 +1,10 @@
 -- When the outputs of a log are those of numbered texts.
-use Rattle.std.specs.Prelude.{ℕ, ◌≡◌, ◌<◌, ◌==◌, if◌then◌else◌, List, [], ◌∷◌}
-use Rattle.std.specs.List.{sum_by}
+use Rattle.std.specs.Prelude.{ℕ, ◌≡◌, ◌<◌, List, [], ◌∷◌}
+use Rattle.as_words.specs.Prefix.{IsPrefix}
+use Rattle.as_base.specs.Times.{times}
 use Rattle.as_outside.specs.declared.entry.Entry.{Entry}
-use Rattle.as_outside.specs.Log.{begins, puts, failures, failed_on, held}
-use Rattle.as_outside.specs.Shelf.{IsFront}
-
--- how often the number stands in the list
-abbrev pub times : ℕ → List ℕ → ℕ
-times n numbers = sum_by (λ m. if m == n then 1 else 0) numbers
+use Rattle.as_outside.specs.Log.{begins, puts, held}
+use Rattle.as_outside.specs.Failures.{failures, failed_on}
 
 -- no call on output n follows one that failed
 abbrev pub EndsAtFailure : ℕ → List Entry → Type 0
@@ -22,7 +19,7 @@ pub record AreOutputs (numbers : List ℕ) (text : ℕ → List ℕ) (log : List
   pub others : (n : ℕ) → times n numbers ≡ 0 → puts n log ≡ 0
   -- an output on which no call failed holds its text
   pub whole : (n : ℕ) → failures n log ≡ 0 → held n log ≡ text n
-  -- one on which a call failed holds a front of it
-  pub broken : (n : ℕ) → 0 < failures n log → IsFront (held n log) (text n)
+  -- one on which a call failed holds a prefix of it
+  pub broken : (n : ℕ) → 0 < failures n log → IsPrefix (held n log) (text n)
   -- and had no further call
   pub ended : (n : ℕ) → EndsAtFailure n log

@@ -25,7 +25,7 @@ impl Gate for FreeGate {
 mod tests {
     use super::*;
 
-    /// Passes all places of the gate.
+    // Passes all places of the gate.
     fn pass<G: Gate>(gate: &G) {
         gate.enter(Place::Part(0));
         gate.enter(Place::Feeder(1));

@@ -4,12 +4,12 @@
 
 mod entry;
 mod gate;
-mod memory;
+mod mem_desk;
 mod report;
 mod shelf;
 
 pub use entry::Entry;
 pub use gate::{FreeGate, Gate, Place};
-pub use memory::MemDesk;
+pub use mem_desk::MemDesk;
 pub use report::{Report, Status, code};
 pub use shelf::{Desk, Failed, Shelf};

@@ -1,4 +1,5 @@
 pub mod NumberLaws
 pub mod PartLaws
 pub mod WordLaws
-pub mod GrowsLaws
+pub mod AppendsLaws
+pub mod JoinedLaws

@@ -1,4 +1,5 @@
-use Rattle.std.proofs.Common.{◌≡◌, ℕ, zero, suc, ◌+◌, ◌*◌, ◌^◌, ◌<◌, ◌≤◌, ◌&&◌, Bool, true, false, if◌then◌else◌, Option, Some, None, List, [], ◌∷◌, length, take, get_or, refl, sym, ap, ap₂, true≢false, ◌∙◌, subst, arith, bytes_eq, nat_lt, decimal, ℤ, pos, negsuc, neg_ℤ, int_lt, SomeIff, eq-zero-or-pos, slice_get, inl, inr, ◌≢◌, slice_index, ◌==◌, drop, eqb}
+-- Numbers and the words that spell them.
+use Rattle.std.proofs.Common.{◌≡◌, ℕ, zero, suc, ◌+◌, ◌*◌, ◌^◌, ◌<◌, ◌≤◌, ◌&&◌, Bool, true, false, Option, Some, None, List, [], ◌∷◌, length, take, get_or, refl, sym, ap, ap₂, true≢false, ◌∙◌, subst, arith, bytes_eq, nat_lt, decimal, ℤ, pos, negsuc, neg_ℤ, SomeIff, eq-zero-or-pos, slice_get, inl, inr, ◌≢◌, slice_index, ◌==◌, drop, eqb}
 use Rattle.std.specs.Char.{digit_value}
 use Rattle.std.specs.Int.{IsInRange}
 use Rattle.std.specs.Cmp.Lexicographic.{pointwise}
@@ -12,7 +13,7 @@ use Rattle.std.proofs.lemmas.Str.Parse.{IsNumeralModel, numerals_by_value, tells
 use Rattle.std.specs.Result.{result_ok, OkIff}
 use Rattle.std.proofs.Common.{Result, Ok, Err, SFits, w64}
 use lib.Signed.{mag}
-use Rattle.as_words.specs.Number.{natural, integer}
+use Rattle.as_words.specs.Number.{is_signed, IsSigned, natural, integer}
 
 pub own : IsNumeralModel (AllDigits 10) (digits_value 10)
 own = numerals_by_value (AllDigits 10) tells_digits
@@ -60,19 +61,6 @@ spells-natural limit n word =
 pub misses-natural : (limit n : ℕ) (word : List ℕ) → natural limit word ≡ None → n < limit → n < 2 ^ 64 → word ≡ decimal n → ⊥
 misses-natural limit n word none l fits e = cc (none, natural-Some limit n word l fits e)
 
--- a smaller limit
-pub natural-below : (limit : ℕ) (word : List ℕ) (n : ℕ) → limit ≤ 2 ^ 64 → natural (2 ^ 64) word ≡ Some n → natural limit word ≡ (if nat_lt n limit then Some n else None)
-natural-below limit word n low e =
-    let s = spells-natural (2 ^ 64) n word e in
-    cond_both (nat_lt n limit) (Some n) None (λ o. natural limit word ≡ o)
-    (λ h. natural-Some limit n word (ltb-true n limit h) s.0 s.1)
-    (λ h. natural-None limit word (λ m l w.
-    let same : m ≡ n = decimal_injective m n (omega (arith, l, low)) s.0 (sym w ∙ s.1) in
-    cc (h, lt-ltb n limit (omega (arith, same, l)))))
-
-pub natural-none_below : (limit : ℕ) (word : List ℕ) → limit ≤ 2 ^ 64 → natural (2 ^ 64) word ≡ None → natural limit word ≡ None
-natural-none_below limit word low e = natural-None limit word (λ n l w. misses-natural (2 ^ 64) n word e (omega (arith, l, low)) (omega (arith, l, low)) w)
-
 -- the empty word, and a zero before further digits
 pub natural-nil : natural (2 ^ 64) [] ≡ None
 natural-nil = natural-None (2 ^ 64) [] (λ n l w. absurd (omega (arith, decimal_nonempty n l, ap length w)))
@@ -109,58 +97,42 @@ value-signed_decimal (pos n) h =
     plain_value (decimal n) (λ e. omega (arith, e, d.0)) (λ e. omega (arith, e, d.0)) ∙ ap (λ m. pos m) (digits_value-decimal own n (omega (arith, h)))
 value-signed_decimal (negsuc n) h = ap (λ m. neg_ℤ (pos m)) (digits_value-decimal own (suc n) (omega (arith, h)))
 
-mag-lt : (z : ℤ) → int_lt (negsuc (2 ^ 63)) z ≡ true → int_lt z (pos (2 ^ 63)) ≡ true → mag z < 2 ^ 63
-mag-lt (pos n) low high = ltb-true n (2 ^ 63) high
-mag-lt (negsuc n) low high = ltb-true n (2 ^ 63) low
+-- a number is in range just where its magnitude is below 2^63
+pub mag-signed : (z : ℤ) → IsSigned z → mag z < 2 ^ 63
+mag-signed (pos n) h = ltb-true n (2 ^ 63) (and_parts true (nat_lt n (2 ^ 63)) h).1
+mag-signed (negsuc n) h = ltb-true n (2 ^ 63) (and_parts (nat_lt n (2 ^ 63)) true h).0
 
-lt-low : (z : ℤ) → mag z < 2 ^ 63 → int_lt (negsuc (2 ^ 63)) z ≡ true
-lt-low (pos n) h = refl
-lt-low (negsuc n) h = lt-ltb n (2 ^ 63) h
-
-lt-high : (z : ℤ) → mag z < 2 ^ 63 → int_lt z (pos (2 ^ 63)) ≡ true
-lt-high (pos n) h = lt-ltb n (2 ^ 63) h
-lt-high (negsuc n) h = refl
+IsSigned-mag : (z : ℤ) → mag z < 2 ^ 63 → IsSigned z
+IsSigned-mag (pos n) h = and_from true (nat_lt n (2 ^ 63)) refl (lt-ltb n (2 ^ 63) h)
+IsSigned-mag (negsuc n) h = and_from (nat_lt n (2 ^ 63)) true (lt-ltb n (2 ^ 63) h) refl
 
 -- the test of `integer`, at the value that the word's digits give
 abbrev is_spelled : ℤ → List ℕ → Bool
-is_spelled z word = bytes_eq (signed_decimal z) word && int_lt (negsuc (2 ^ 63)) z && int_lt z (pos (2 ^ 63))
+is_spelled z word = bytes_eq (signed_decimal z) word && is_signed z
 
 pub integer-None : (word : List ℕ) → ((z : ℤ) → mag z < 2 ^ 63 → word ≡ signed_decimal z → ⊥) → integer word ≡ None
 integer-None word none =
     let z : ℤ = signed_digits_value 10 word in
     cond_both (is_spelled z word) (Some z) None (λ o. o ≡ None)
-    (λ h. let two = and_parts (bytes_eq (signed_decimal z) word && int_lt (negsuc (2 ^ 63)) z) (int_lt z (pos (2 ^ 63))) h in
-    let one = and_parts (bytes_eq (signed_decimal z) word) (int_lt (negsuc (2 ^ 63)) z) two.0 in
-    absurd (none z (mag-lt z one.1 two.1) (sym ((bytes_eq-Decides (signed_decimal z) word).0 one.0))))
+    (λ h. let parts = and_parts (bytes_eq (signed_decimal z) word) (is_signed z) h in
+    absurd (none z (mag-signed z parts.1) (sym ((bytes_eq-Decides (signed_decimal z) word).0 parts.0))))
     (λ h. refl)
 
--- a number that was read fits
-pub integer-fits : (word : List ℕ) (z : ℤ) → integer word ≡ Some z → mag z < 2 ^ 63
-integer-fits word z =
+-- a number that was read is in range, and is what its word spells
+pub spells-integer : (word : List ℕ) (z : ℤ) → integer word ≡ Some z → IsSigned z × (word ≡ signed_decimal z)
+spells-integer word z =
     let y : ℤ = signed_digits_value 10 word in
-    cond_both (is_spelled y word) (Some y) None (λ o. o ≡ Some z → mag z < 2 ^ 63)
-    (λ h e. let two = and_parts (bytes_eq (signed_decimal y) word && int_lt (negsuc (2 ^ 63)) y) (int_lt y (pos (2 ^ 63))) h in
-    let one = and_parts (bytes_eq (signed_decimal y) word) (int_lt (negsuc (2 ^ 63)) y) two.0 in
+    let Told : ℤ → Type 0 = λ x. IsSigned x × (word ≡ signed_decimal x) in
+    cond_both (is_spelled y word) (Some y) None (λ o. o ≡ Some z → Told z)
+    (λ h e. let parts = and_parts (bytes_eq (signed_decimal y) word) (is_signed y) h in
     let same : y ≡ z = cc e in
-    let Small : ℤ → Type 0 = λ x. mag x < 2 ^ 63 in
-    subst Small same (mag-lt y one.1 two.1))
+    subst Told same (parts.1, sym ((bytes_eq-Decides (signed_decimal y) word).0 parts.0)))
     (λ h e. cc e)
 
--- a number that was read is what its word spells
-pub integer-spells : (word : List ℕ) (z : ℤ) → integer word ≡ Some z → word ≡ signed_decimal z
-integer-spells word z =
-    let y : ℤ = signed_digits_value 10 word in
-    cond_both (is_spelled y word) (Some y) None (λ o. o ≡ Some z → word ≡ signed_decimal z)
-    (λ h e. let two = and_parts (bytes_eq (signed_decimal y) word && int_lt (negsuc (2 ^ 63)) y) (int_lt y (pos (2 ^ 63))) h in
-    let one = and_parts (bytes_eq (signed_decimal y) word) (int_lt (negsuc (2 ^ 63)) y) two.0 in
-    let same : y ≡ z = cc e in
-    sym ((bytes_eq-Decides (signed_decimal y) word).0 one.0) ∙ ap (λ x. signed_decimal x) same)
-    (λ h e. cc e)
-
-pub integer-Some : (z : ℤ) (word : List ℕ) → mag z < 2 ^ 63 → word ≡ signed_decimal z → integer word ≡ Some z
+integer-Some : (z : ℤ) (word : List ℕ) → mag z < 2 ^ 63 → word ≡ signed_decimal z → integer word ≡ Some z
 integer-Some z word h e =
     let v : signed_digits_value 10 word ≡ z = ap (signed_digits_value 10) e ∙ value-signed_decimal z h in
-    let test : is_spelled z word ≡ true = and_from _ _ (and_from _ _ ((bytes_eq-Decides (signed_decimal z) word).1 (sym e)) (lt-low z h)) (lt-high z h) in
+    let test : is_spelled z word ≡ true = and_from _ _ ((bytes_eq-Decides (signed_decimal z) word).1 (sym e)) (IsSigned-mag z h) in
     cond-true (is_spelled (signed_digits_value 10 word) word) (Some (signed_digits_value 10 word)) None (ap (λ y. is_spelled y word) v ∙ test) ∙ ap (λ y. Some y) v
 
 -- a word without a minus in front
@@ -190,21 +162,6 @@ no_minus word none (negsuc n) h w = none (suc n) (omega arith) (omega (arith, h)
 pub integer-minus_none : (word : List ℕ) → natural (2 ^ 64) word ≡ None → integer (45 ∷ word) ≡ None
 integer-minus_none word none = integer-None (45 ∷ word) (no_minus word (λ n some h w. misses-natural (2 ^ 64) n word none (omega (arith, h)) (omega (arith, h)) w))
 
-minus_spelled : (n : ℕ) → 0 < n → n ≤ 2 ^ 63 → integer (45 ∷ decimal n) ≡ Some (neg_ℤ (pos n))
-minus_spelled zero some h = absurd (omega (arith, some))
-minus_spelled (suc n) some h = integer-Some (negsuc n) (45 ∷ decimal (suc n)) (omega (arith, h)) refl
-
--- the number of a word after a minus
-pub integer-minus : (word : List ℕ) (n : ℕ) (r : Option ℤ) → natural (2 ^ 64) word ≡ Some n → SomeIff r ((0 < n) × (n ≤ 2 ^ 63)) (neg_ℤ (pos n)) → r ≡ integer (45 ∷ word)
-integer-minus word n (Some z) e h =
-    let s = spells-natural (2 ^ 64) n word e in
-    sym (ap (λ w. integer (45 ∷ w)) s.1 ∙ minus_spelled n h.0.0 h.0.1 ∙ ap (λ y. Some y) (sym h.1))
-integer-minus word n None e h =
-    let s = spells-natural (2 ^ 64) n word e in
-    sym (integer-None (45 ∷ word) (no_minus word (λ m some k w.
-    let same : m ≡ n = decimal_injective m n (omega (arith, k)) s.0 (sym w ∙ s.1) in
-    h (omega (arith, some, same), omega (arith, k, same)))))
-
 -- what the first byte tells, and that there is none
 pub first_is : (bytes : List ℕ) (b : ℕ) → Some b ≡ slice_get bytes 0 → (0 < length bytes) × (get_or bytes 0 0 ≡ b)
 first_is [] b e = cc e
@@ -232,12 +189,6 @@ fitted n (Err e) h = λ l. h (record { sfits = l })
 pub integer-converted : {E : Type 0} (word : List ℕ) (n : ℕ) (t : Result ℤ E) → natural (2 ^ 64) word ≡ Some n → OkIff t (SFits w64 (pos n)) (pos n) → result_ok t ≡ integer word
 integer-converted word n t e h = integer-plain word n (result_ok t) e (fitted n t h)
 
--- what an integer that was read tells
-pub spells-integer : (word : List ℕ) (z : ℤ) → integer word ≡ Some z → ((int_lt (negsuc (2 ^ 63)) z ≡ true) × (int_lt z (pos (2 ^ 63)) ≡ true)) × (word ≡ signed_decimal z)
-spells-integer word z e =
-    let fits : mag z < 2 ^ 63 = integer-fits word z e in
-    ((lt-low z fits, lt-high z fits), integer-spells word z e)
-
 -- a number in the range is read from its spelling
-pub integer-spelled : (z : ℤ) → int_lt (negsuc (2 ^ 63)) z ≡ true → int_lt z (pos (2 ^ 63)) ≡ true → integer (signed_decimal z) ≡ Some z
-integer-spelled z low high = integer-Some z (signed_decimal z) (mag-lt z low high) refl
+pub integer-spelled : (z : ℤ) → IsSigned z → integer (signed_decimal z) ≡ Some z
+integer-spelled z h = integer-Some z (signed_decimal z) (mag-signed z h) refl

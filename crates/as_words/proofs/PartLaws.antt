@@ -1,4 +1,5 @@
-use Rattle.std.proofs.Common.{◌≡◌, ℕ, zero, suc, ◌<◌, Some, None, position, get_or, take, drop, add-one, ◌+◌, ◌≤◌, ◌==◌, if◌then◌else◌, true, false, List, [], ◌∷◌, ◌++◌, length, refl, ap, ◌∙◌, arith}
+-- Parts between separators: one more byte, the first part, and how many there are.
+use Rattle.std.proofs.Common.{◌≡◌, ℕ, zero, suc, ◌<◌, Some, None, position, get_or, take, drop, add-one, ◌+◌, ◌==◌, if◌then◌else◌, true, false, List, [], ◌∷◌, ◌++◌, length, refl, ap, ◌∙◌, arith}
 use Rattle.std.specs.List.{position_or_len}
 use Rattle.std.specs.Prelude.{nat_lt}
 use Rattle.std.proofs.lemmas.Bool.{cond-true, cond-false, eq-eqb, eqb-true, cond_both, ltb-false}
@@ -101,26 +102,6 @@ last_of_by_byte separator bytes b =
       | true ↦ last_of_two (but_last (parts_of separator bytes)) (last_of (parts_of separator bytes)) []
       | false ↦ last_of_push (but_last (parts_of separator bytes)) (last_of (parts_of separator bytes) ++ b ∷ [])
     ])
-
--- how many parts but the last there are, with the length of the last
-abbrev weight : List (List ℕ) → ℕ
-weight parts = length (but_last parts) + length (last_of parts)
-
-weight-onto_first : (b : ℕ) (parts : List (List ℕ)) → HasPart parts → weight (onto_first b parts) ≤ weight parts + 1
-weight-onto_first b [] h = absurd h
-weight-onto_first b (part ∷ []) h = omega arith
-weight-onto_first b (part ∷ next ∷ parts) h = omega arith
-
--- each part but the last took a byte, and so did each byte of the last
-pub parts_of-le : (separator : ℕ) (bytes : List ℕ) → length (but_last (parts_of separator bytes)) + length (last_of (parts_of separator bytes)) ≤ length bytes
-parts_of-le separator [] = omega arith
-parts_of-le separator (b ∷ bytes) =
-    let some = HasPart-parts_of separator bytes in
-    let before : weight (parts_of separator bytes) ≤ length bytes = parts_of-le separator bytes in
-    elim (b == separator) as (λ t. weight (if t then [] ∷ parts_of separator bytes else onto_first b (parts_of separator bytes)) ≤ length (b ∷ bytes)) [
-      | true ↦ rw (but_last-cons [] (parts_of separator bytes) some, last_of-cons [] (parts_of separator bytes) some) (omega arith)
-      | false ↦ omega (arith, weight-onto_first b (parts_of separator bytes) some)
-    ]
 
 parts_at : (separator : ℕ) (bytes : List ℕ) (i : ℕ) → i < length bytes → get_or bytes i 0 ≡ separator → ((k : ℕ) → k < i → (get_or bytes k 0 == separator) ≡ false)
     → parts_of separator bytes ≡ take i bytes ∷ parts_of separator (drop (suc i) bytes)

@@ -1,4 +1,8 @@
-use Rattle.std.proofs.Common.{◌≡◌, ◌↔◌, ℕ, Bool, true, false, Option, Some, None, List, [], ◌∷◌, sym, ap, ◌∙◌, refl, is_some, not, drop, position, length, arith, if◌then◌else◌, cond, ◌==◌, ◌+◌, ◌≤◌}
+-- The words that are left of a line, and the words that name things.
+use Rattle.std.proofs.Common.{◌≡◌, ◌↔◌, ℕ, Bool, true, false, Option, Some, None, List, [], ◌∷◌, sym, ap, ◌∙◌, refl, is_some, not, drop, position, length, arith, if◌then◌else◌, cond, ◌==◌, ◌+◌, ◌≤◌, bytes_eq}
+use Rattle.std.proofs.lemmas.Bool.{cond_both}
+use Rattle.std.proofs.lemmas.Slice.Eq.{bytes_eq-Decides}
+use Rattle.as_words.specs.Words.{pick}
 use Rattle.std.proofs.lemmas.List.Sums.{sum_by-cons}
 use Rattle.std.specs.Bool.{IsTrue}
 use Rattle.std.specs.Prelude.{count_by}
@@ -53,3 +57,14 @@ parts_short s (b ∷ bytes) =
       | true ↦ omega (arith, before)
       | false ↦ omega (arith, before, on)
     ]
+
+some_same : {X : Type 0} (x y : X) → Some x ≡ Some y → x ≡ y
+some_same x y e = cc e
+
+-- what was picked is spelled so
+pub pick-Some : {X : Type 0} (spell : X → List ℕ) (xs : List X) (word : List ℕ) (x : X) → pick spell xs word ≡ Some x → word ≡ spell x
+pick-Some spell [] word x = λ e. cc e
+pick-Some spell (y ∷ ys) word x =
+    cond_both (bytes_eq word (spell y)) (Some y) (pick spell ys word) (λ o. o ≡ Some x → word ≡ spell x)
+    (λ h e. (bytes_eq-Decides word (spell y)).0 h ∙ ap spell (some_same y x e))
+    (λ h e. pick-Some spell ys word x e)

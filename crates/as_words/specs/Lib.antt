@@ -1,3 +1,5 @@
+pub mod Prefix
+pub mod Appends
 pub mod Number
 pub mod Parts
-pub mod Grows
+pub mod Words

@@ -1,3 +1,4 @@
+-- Parts of bytes between separators.
 use Rattle.std.specs.Prelude.{ℕ, ◌==◌, if◌then◌else◌, Option, Some, None, List, [], ◌∷◌}
 use denote.Ref.{Bor}
 
@@ -6,7 +7,7 @@ abbrev pub onto_first : ℕ → List (List ℕ) → List (List ℕ)
 onto_first b [] = (b ∷ []) ∷ []
 onto_first b (part ∷ parts) = (b ∷ part) ∷ parts
 
--- The parts between separators, one more than there are separators.
+-- the parts between separators, one more than there are separators
 abbrev pub parts_of : ℕ → List ℕ → List (List ℕ)
 parts_of separator [] = [] ∷ []
 parts_of separator (b ∷ bytes) = if b == separator then [] ∷ parts_of separator bytes else onto_first b (parts_of separator bytes)

@@ -6,10 +6,11 @@ mod number;
 mod words;
 
 pub use append::{
-    append_decimal, append_signed, append_spaced, append_spaced_decimal, append_spaced_signed,
+    append_decimal, append_signed, append_spaced, append_spaced_decimal, append_spaced_numbers,
+    append_spaced_signed, whole_or_none,
 };
 pub use number::{LEAST, parse_below, parse_integer, parse_natural};
-pub use words::Words;
+pub use words::{Words, is_word, is_words};
 
 #[cfg(test)]
 mod tests;

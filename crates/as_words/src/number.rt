@@ -6,7 +6,7 @@ ghost use Rattle.as_words.specs.Number.{natural, integer};
 /// The magnitude of the least `i64`: 2^63.
 pub const LEAST: u64 = 1 << 63;
 
-/// The number with one more digit, if the byte is a digit and the number fits.
+// The number with one more digit, if the byte is a digit and the number fits.
 fn with_digit(number: u64, byte: u8) -> Option<u64>
     ensures { SomeIff result
         ((digit_value byte < 10) × (number * 10 + digit_value byte < 2 ^ 64))
@@ -18,7 +18,7 @@ fn with_digit(number: u64, byte: u8) -> Option<u64>
     number.checked_mul(10)?.checked_add(u64::from(byte - b'0'))
 }
 
-/// The number that the digits write, if all bytes are digits and the number fits.
+// The number that the digits write, if all bytes are digits and the number fits.
 fn from_digits(word: &[u8]) -> Option<u64>
     ensures { SomeIff result
         (AllDigits 10 word.now × (digits_value 10 word.now < 2 ^ 64))
@@ -50,7 +50,7 @@ pub fn parse_below(word: &[u8], limit: u64) -> Option<u64>
     (number < limit).then_some(number)
 }
 
-/// The negative number of this magnitude, if it fits.
+// The negative number of this magnitude, if it fits.
 fn negative(magnitude: u64) -> Option<i64>
     ensures { SomeIff result ((0 < magnitude) × (magnitude ≤ 2 ^ 63)) (neg_ℤ (pos magnitude)) }
 {

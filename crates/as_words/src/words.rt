@@ -1,13 +1,14 @@
 ghost use Rattle.std.specs.Prelude.{◌≡◌, ◌↔◌, ◌==◌, [], ◌∷◌, drop, length, MatchOption, IsTrue};
-ghost use Rattle.std.specs.List.{position};
+ghost use Rattle.std.specs.List.{position, list_all};
 ghost use Rattle.as_words.specs.Parts.{parts_of, words_of};
+ghost use Rattle.as_words.specs.Words.{is_word_byte, is_word, is_words};
 
 use std::marker::Model;
 
 /// The words of a line that are left to be read, between single spaces. Contracts see them as a list.
 #[derive(Drop)]
 pub struct Words<'a> {
-    /// What is left of the line; `None` where no word is left.
+    // What is left of the line; `None` where no word is left.
     rest: Option<&'a [u8]>,
 }
 
@@ -20,14 +21,14 @@ impl<'a> Model for Words<'a> {
     ghost view = { λ w. words_of w.rest };
 }
 
-/// Where the first space is.
+// Where the first space is.
 fn space_in(bytes: &[u8]) -> Option<usize>
     ensures { result ≡ position (λ b. b == 32) bytes.now }
 {
     bytes.iter().position(|byte| *byte == b' ')
 }
 
-/// How many words there are between the spaces.
+// How many words there are between the spaces.
 fn count_words(rest: &[u8]) -> usize
     ensures { result ≡ length (parts_of 32 rest.now) }
 {
@@ -40,7 +41,7 @@ fn count_words(rest: &[u8]) -> usize
     spaces + 1
 }
 
-/// What is left after the first word.
+// What is left after the first word.
 fn after_word(rest: &[u8]) -> Option<&[u8]>
     ensures { words_of result ≡ drop 1 (parts_of 32 rest.now) }
 {
@@ -118,4 +119,38 @@ impl<'a> Words<'a> {
             }
         }
     }
+}
+
+// The byte may stand in a word: it is one of 33 to 126.
+fn is_word_byte(byte: u8) -> bool
+    ensures { result ≡ is_word_byte byte }
+{
+    byte.is_ascii_graphic()
+}
+
+// Each of the bytes may stand in a word.
+fn are_word_bytes(bytes: &[u8]) -> bool
+    ensures { result ≡ list_all is_word_byte bytes.now }
+{
+    bytes.iter().all(|byte| is_word_byte(*byte))
+}
+
+/// The bytes are one word.
+pub fn is_word(bytes: &[u8]) -> bool
+    ensures { result ≡ is_word bytes.now }
+{
+    !bytes.is_empty() && are_word_bytes(bytes)
+}
+
+/// The bytes are words, one or more, with one space between two.
+pub fn is_words(bytes: &[u8]) -> bool
+    ensures { result ≡ is_words bytes.now }
+{
+    let mut words = Words::new(bytes);
+    while let Some(word) = words.next() {
+        if !is_word(word) {
+            return false;
+        }
+    }
+    true
 }

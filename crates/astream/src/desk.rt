@@ -1,5 +1,5 @@
 ghost use Rattle.std.specs.Prelude.{◌≡◌, ◌≤◌, length, IfOk, None};
-ghost use Rattle.as_outside.specs.Shelf.{Rose};
+ghost use Rattle.as_outside.specs.Makes.{Rose};
 
 use as_outside::{Desk, Failed, Shelf};
 use std::alloc::Global;
@@ -99,17 +99,16 @@ fn append<R: Files>(rt: &R, alloc: Global, n: u64, bytes: &[u8]) -> Result<(), F
 }
 
 impl<R: Files + Input + Print> Shelf for RealDesk<'_, R> {
-    ghost say_faults = { λ d. d.says };
-
-    ghost note_faults = { λ d. d.notes };
-
-    ghost pull_faults = { λ d. d.pulls };
-
-    ghost output_faults = { λ d n. d.outputs };
-
-    ghost log = { λ d. None };
-
-    ghost left = { λ d. None };
+    ghost seen = { λ d. record {
+      log = None;
+      left = None;
+      faults = record {
+        say = d.says;
+        note = d.notes;
+        pull = d.pulls;
+        output = λ n. d.outputs;
+      };
+    } };
 
     fn say(&mut self, bytes: &[u8]) -> Result<(), Failed> {
         match write_whole(&mut io::writer(self.rt), bytes) {

@@ -48,6 +48,3 @@ fn main(rt: HostRuntime) -> ExitCode {
     }
     ExitCode::from(code(status))
 }
-
-#[cfg(test)]
-mod tests;

@@ -1,39 +1,30 @@
--- The words of a call, joined.
-use Rattle.std.proofs.Common.{◌≡◌, ℕ, ◌+◌, ◌≤◌, ◌<◌, ◌&&◌, not, eqb, nat_le, Bool, true, false, true≢false, List, [], ◌∷◌, ◌++◌, map, length, length-append, get_or, take, drop, codes, refl, sym, ap, ◌∙◌, append-nil, arith}
-use Rattle.std.specs.List.{list_all, join_by, flat_map}
-use Rattle.std.proofs.lemmas.Bool.{and_parts, leb-true, le-leb, lt-leb}
+-- The words of a call, joined: that they are a text, and how long they are.
+use Rattle.std.proofs.Common.{◌≡◌, ℕ, ◌+◌, ◌≤◌, ◌<◌, nat_le, true, false, List, [], ◌∷◌, ◌++◌, map, length, length-append, get_or, take, drop, codes, refl, ap, ◌∙◌, append-nil, arith}
+use Rattle.std.specs.List.{list_all, AllByRecursion, join_by, flat_map}
+use Rattle.std.proofs.lemmas.Bool.{and_parts, and_from, le-leb, lt-leb}
 use Rattle.std.proofs.lemmas.List.{map-append, take_more, take-append-drop}
-use Rattle.as_base.specs.Text.{is_word_byte, is_spaced, is_text}
-use Rattle.query_plan.specs.Text.{spaced, joined}
-use Rattle.query_plan.proofs.WordLaws.{past_byte, past_word, some_text, spaced-append}
-use Rattle.astream_top.specs.Words.{is_word, are_text}
+use Rattle.as_words.specs.Words.{is_word, is_words, spaced, joined}
+use Rattle.as_words.proofs.JoinedLaws.{IsWord, is_words-joined, spaced-append}
+use Rattle.as_base.specs.Text.{is_text}
+use Rattle.astream_top.specs.Command.{are_text}
 
-some_byte : (w : List ℕ) → is_word w ≡ true → 0 < length w
-some_byte [] h = absurd (true≢false (sym h))
-some_byte (b ∷ w) h = omega arith
+each_word : (words : List (List ℕ)) → list_all is_word words ≡ true → AllByRecursion IsWord words
+each_word [] h = tt
+each_word (word ∷ words) h =
+    let parts = and_parts (is_word word) (list_all is_word words) h in
+    (parts.0, each_word words parts.1)
 
-first_word : (w bytes : List ℕ) → is_word w ≡ true → is_spaced false (w ++ bytes) ≡ is_spaced true bytes
-first_word [] bytes h = absurd (true≢false (sym h))
-first_word (b ∷ w) bytes h =
-    let parts = and_parts (is_word_byte b) (list_all is_word_byte w) (and_parts (not (eqb (length (b ∷ w)) 0)) (list_all is_word_byte (b ∷ w)) h).1 in
-    past_byte b (w ++ bytes) false parts.0 ∙ past_word w bytes parts.1
-
-further_words : (ws : List (List ℕ)) → list_all is_word ws ≡ true → is_spaced true (spaced ws) ≡ true
-further_words [] h = refl
-further_words (w ∷ ws) h =
-    let parts = and_parts (is_word w) (list_all is_word ws) h in
-    first_word w (spaced ws) parts.0 ∙ further_words ws parts.1
+some_text : (bytes : List ℕ) → nat_le (length bytes) 4089 ≡ true → is_words bytes ≡ true → is_text bytes ≡ true
+some_text [] short words = refl
+some_text (b ∷ bytes) short words = and_from _ _ short words
 
 -- the words of a text, joined, are a text
-pub text-joined : (ws : List (List ℕ)) → are_text ws ≡ true → is_text (joined ws) ≡ true
+pub text-joined : (words : List (List ℕ)) → are_text words ≡ true → is_text (joined words) ≡ true
 text-joined [] h = refl
-text-joined (w ∷ ws) h =
-    let fits = and_parts (list_all is_word (w ∷ ws)) (nat_le (length (joined (w ∷ ws))) 4089) h in
-    let parts = and_parts (is_word w) (list_all is_word ws) fits.0 in
-    some_text (w ++ spaced ws)
-    (omega (arith, length-append w (spaced ws), some_byte w parts.0))
-    (leb-true (length (w ++ spaced ws)) 4089 fits.1)
-    (first_word w (spaced ws) parts.0 ∙ further_words ws parts.1)
+text-joined (word ∷ words) h =
+    let fits = and_parts (list_all is_word (word ∷ words)) (nat_le (length (joined (word ∷ words))) 4089) h in
+    let each = each_word (word ∷ words) fits.0 in
+    some_text (joined (word ∷ words)) fits.1 (is_words-joined word words each.0 each.1)
 
 spaced-by : {X : Type 0} (f : X → List ℕ) (xs : List X) → flat_map (λ x. codes " " ++ f x) xs ≡ spaced (map f xs)
 spaced-by f [] = refl

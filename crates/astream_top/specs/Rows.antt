@@ -2,21 +2,20 @@
 use Rattle.std.specs.Prelude.{ℕ, ◌≡◌, refl, replicate, List, [], ◌∷◌, ◌++◌, codes}
 use Rattle.std.specs.Fmt.{digits}
 use Rattle.as_lineform.specs.Lines.{items}
-use Rattle.astream_top.specs.Setup.{run_setup}
-use Rattle.astream_top.specs.Stage.{taken}
-use Rattle.astream_top.specs.Answers.{answers_text, done_text}
-use Rattle.astream_top.specs.View.{text_of}
-use Rattle.astream_top.specs.Prompt.{shut}
+use Rattle.session.specs.Stage.{stage, taken}
+use Rattle.session.specs.View.{text_of}
+use Rattle.session.specs.Shut.{shut}
+use Rattle.service.specs.AnswerText.{answers_text, done_text}
 
 -- the answers to an input, and the text of output n after its lines, and after its end
 abbrev answered : List ℕ → List ℕ
-answered bytes = answers_text run_setup (items bytes)
+answered bytes = answers_text stage (items bytes)
 
 abbrev held_at : ℕ → List ℕ → List ℕ
-held_at n bytes = text_of run_setup (taken run_setup (items bytes)) n
+held_at n bytes = text_of stage (taken stage (items bytes)) n
 
 abbrev held_in_the_end : ℕ → List ℕ → List ℕ
-held_in_the_end n bytes = text_of run_setup (shut run_setup (taken run_setup (items bytes))) n
+held_in_the_end n bytes = text_of stage (shut stage (taken stage (items bytes))) n
 
 abbrev passed_input : List ℕ
 passed_input = codes "create select from a\nrec a 5 1 10 0 0 0\nmark a 6\n"
@@ -118,3 +117,19 @@ texts_answers = refl
 pub bounded_output : held_at 1 texts_input ≡ codes "1 1 5 0 0 0\n"
 unfolding digits
 bounded_output = refl
+
+-- the second query is created at 6, and the second record, which comes after it, has the time 5: it is not its own
+abbrev after_input : List ℕ
+after_input = codes "create select from a\nrec a 5 1 0 0 0 0\ncreate select from a\nrec a 5 2 0 0 0 0\nmark a 6\n"
+
+pub after_answers : answered after_input ≡ codes "1 created 1 at 0\n3 created 2 at 6\n"
+unfolding digits
+after_answers = refl
+
+pub first_after : held_at 1 after_input ≡ codes "5 1 0 0 0 0\n5 2 0 0 0 0\n"
+unfolding digits
+first_after = refl
+
+pub second_after : held_in_the_end 2 after_input ≡ []
+unfolding digits
+second_after = refl

@@ -38,8 +38,8 @@ module _ {X : Type 0} where
   roles_alone role v small is = ap roles_in (is.0 ∙ ap (only role) is.1) ∙ roles-only role (list_of v role) small
 
   -- a view that a moment has is of six places, so its parts did not clash
-  pub free_of : (v w : List (Option (List (ℕ × X)))) (items : List (ℕ × X)) → Moment (both_of v w) items → clash v w ≡ false
-  free_of v w items m = ⊎_elim
+  pub free_of : (Sound : X → Type 0) (sees : List (ℕ × X) → List (ℕ × X) → Type 0) (v w : List (Option (List (ℕ × X)))) (items : List (ℕ × X)) → Moment Sound sees (both_of v w) items → clash v w ≡ false
+  free_of Sound sees v w items m = ⊎_elim
       (λ (e : clash v w ≡ true). let long = sym (ap length (cond-true (clash v w) [] (united v w) e)) ∙ m.2.2.2 m.0 (both_of v w) m.3 in absurd (omega (arith, long)))
       (λ (e : clash v w ≡ false). e)
       (cases_Bool (clash v w))
@@ -86,12 +86,24 @@ module _ {X : Type 0} where
   one_more (suc (suc (suc (suc (suc (suc n)))))) x ps low high e = absurd (omega arith)
 
   -- parcels of the five feeders are as many as those of each together
-  all_sizes : (ps : List (ℕ × X)) → AllFed ps → sizes ps ≡ length ps
-  all_sizes [] fed = refl
-  all_sizes (p ∷ ps) fed = one_more p.0 p.1 ps fed.0 fed.1 (all_sizes ps fed.2)
+  pub all_sizes : (Sound : X → Type 0) (ps : List (ℕ × X)) → AllFed Sound ps → sizes ps ≡ length ps
+  all_sizes Sound [] fed = refl
+  all_sizes Sound (p ∷ ps) fed = one_more p.0 p.1 ps fed.0 fed.1 (all_sizes Sound ps fed.3)
 
-  pub tallies : (left : ℕ) (v : List (Option (List (ℕ × X)))) → roles_in v ≡ 6 → Held left (Moment v) → IsTally left v
-  tallies left v full held =
+  fed_front : (Sound : X → Type 0) (ps qs : List (ℕ × X)) → AllFed Sound (ps ++ qs) → AllFed Sound ps
+  fed_front Sound [] qs fed = tt
+  fed_front Sound (p ∷ ps) qs fed = (fed.0, fed.1, fed.2, fed_front Sound ps qs fed.3)
+
+  -- each load that was taken carries the number of a feeder, and is sound
+  pub taken_fed : (Sound : X → Type 0) (sees : List (ℕ × X) → List (ℕ × X) → Type 0) (left : ℕ) (v : List (Option (List (ℕ × X)))) → roles_in v ≡ 6 → Held left (Moment Sound sees v) → AllFed Sound (list_of v 0)
+  taken_fed Sound sees left v full held =
+      let items = held.0 in let moment = held.2 in let kept = moment.2 in let lists = kept.1 in let whole = kept.3 in
+      let long : length v ≡ 6 = kept.2.2 moment.0 v moment.3 in
+      let mine : lists 0 ≡ list_of v 0 = (seat_of kept.0 lists moment.1 moment.0 v 0 (omega arith) kept.2 moment.3 (holds_each v 0 (full ∙ sym long) (omega (arith, long)))).1 in
+      fed_front Sound (list_of v 0) items (subst (λ l. AllFed Sound (l ++ items)) mine whole.1)
+
+  pub tallies : (Sound : X → Type 0) (sees : List (ℕ × X) → List (ℕ × X) → Type 0) (left : ℕ) (v : List (Option (List (ℕ × X)))) → roles_in v ≡ 6 → Held left (Moment Sound sees v) → IsTally left v
+  tallies Sound sees left v full held =
       let items = held.0 in let moment = held.2 in let kept = moment.2 in let lists = kept.1 in let whole = kept.3 in
       let long : length v ≡ 6 = kept.2.2 moment.0 v moment.3 in
       let mine : (r : ℕ) → r < 6 → lists r ≡ list_of v r = λ r h. (seat_of kept.0 lists moment.1 moment.0 v r h kept.2 moment.3 (holds_each v r (full ∙ sym long) (omega (arith, h, long)))).1 in
@@ -99,7 +111,7 @@ module _ {X : Type 0} where
       λ feeder low high. ap loads (sym (mine feeder high)) ∙ whole.0 feeder low high ∙ ap (λ l. from feeder (l ++ items)) (mine 0 (omega arith)) in
       let size : (feeder : ℕ) → 0 < feeder → feeder < 6 → length (list_of v feeder) ≡ length (from feeder (list_of v 0 ++ items)) =
       λ feeder low high. sym (length-map (list_of v feeder) (λ p. p.1)) ∙ ap length (done feeder low high) in
-      let all = all_sizes (list_of v 0 ++ items) (subst (λ l. AllFed (l ++ items)) (mine 0 (omega arith)) whole.1) ∙ length-append (list_of v 0) items in
+      let all = all_sizes Sound (list_of v 0 ++ items) (subst (λ l. AllFed Sound (l ++ items)) (mine 0 (omega arith)) whole.1) ∙ length-append (list_of v 0) items in
       let first = size 1 (omega arith) (omega arith) in let second = size 2 (omega arith) (omega arith) in let third = size 3 (omega arith) (omega arith) in
       let fourth = size 4 (omega arith) (omega arith) in let fifth = size 5 (omega arith) (omega arith) in let rest = held.1 in (
         (λ feeder low high. sym (ap (take (length (from feeder (list_of v 0)))) (done feeder low high ∙ from-joined feeder (list_of v 0) items) ∙ take-append_seam (from feeder (list_of v 0)) (from feeder items))),
@@ -107,8 +119,8 @@ module _ {X : Type 0} where
       )
 
   -- what a join tells, once the rule was looked at
-  pub brought : (v w u new : List (Option (List (ℕ × X)))) → u ≡ both_of v w → new ≡ u → (items : List (ℕ × X)) × Moment u items → (clash v w ≡ false) × (new ≡ both_of v w)
-  brought v w u new both same seen = (free_of v w seen.0 (subst (λ x. Moment x seen.0) both seen.1), same ∙ both)
+  pub brought : (Sound : X → Type 0) (sees : List (ℕ × X) → List (ℕ × X) → Type 0) (v w u new : List (Option (List (ℕ × X)))) → u ≡ both_of v w → new ≡ u → (items : List (ℕ × X)) × Moment Sound sees u items → (clash v w ≡ false) × (new ≡ both_of v w)
+  brought Sound sees v w u new both same seen = (free_of Sound sees v w seen.0 (subst (λ x. Moment Sound sees x seen.0) both seen.1), same ∙ both)
 
   -- what the parts of a view were before another list of them is the same
   pub loads_kept : (v : List (Option (List (ℕ × X)))) (r : ℕ) (l : List (ℕ × X)) → part v r ≡ Some l → loads l ≡ loads (list_of v r)

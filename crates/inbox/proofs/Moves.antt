@@ -8,7 +8,7 @@ use mathlib.Core.Option.{some}
 use lib.ListN.{get_elem?}
 use Rattle.crossbeam_queue.specs.Fifo.{Pushes, Pops, Learns}
 use Rattle.crossbeam_queue.proofs.Lists.{at_set}
-use Rattle.inbox.specs.Roles.{loads, from, AllFed, listed, part, list_of, HoldsRole, nothing, only, IsOnly, added, Seated, Kept, Moment}
+use Rattle.inbox.specs.Roles.{loads, from, AllFed, listed, part, list_of, HoldsRole, nothing, only, IsOnly, added, Seated, Kept, Moment, StaysAtOffer, StaysAtTake, SawBeside, WasFront}
 
 module _ {X : Type 0} where
   -- what a pass that holds a role knows of it
@@ -72,16 +72,16 @@ module _ {X : Type 0} where
       by true l e = ap (λ l. p.1 ∷ l) e
       by false l e = e
 
-  fed-append : (ps : List (ℕ × X)) (x : ℕ × X) → AllFed ps → 0 < x.0 → x.0 < 6 → AllFed (ps ++ x ∷ [])
-  fed-append [] x fed low high = (low, high, fed)
-  fed-append (p ∷ ps) x fed low high = (fed.0, fed.1, fed-append ps x fed.2 low high)
+  fed-append : (Sound : X → Type 0) (ps : List (ℕ × X)) (x : ℕ × X) → AllFed Sound ps → 0 < x.0 → x.0 < 6 → Sound x.1 → AllFed Sound (ps ++ x ∷ [])
+  fed-append Sound [] x fed low high sound = (low, high, sound, fed)
+  fed-append Sound (p ∷ ps) x fed low high sound = (fed.0, fed.1, fed.2, fed-append Sound ps x fed.3 low high sound)
 
-  fed_middle : (ps : List (ℕ × X)) (x : ℕ × X) (qs : List (ℕ × X)) → AllFed (ps ++ x ∷ qs) → (0 < x.0) × (x.0 < 6)
-  fed_middle [] x qs fed = (fed.0, fed.1)
-  fed_middle (p ∷ ps) x qs fed = fed_middle ps x qs fed.2
+  fed_middle : (Sound : X → Type 0) (ps : List (ℕ × X)) (x : ℕ × X) (qs : List (ℕ × X)) → AllFed Sound (ps ++ x ∷ qs) → (0 < x.0) × (x.0 < 6) × Sound x.1
+  fed_middle Sound [] x qs fed = (fed.0, fed.1, fed.2)
+  fed_middle Sound (p ∷ ps) x qs fed = fed_middle Sound ps x qs fed.3
 
-  pub pushes : (n pass : ℕ) (v : List (Option (List (ℕ × X)))) (x : ℕ × X) → 0 < x.0 → x.0 < 6 → HoldsRole v x.0 → Pushes Kept n pass v x (λ w. w ≡ added v x.0 x)
-  pushes n pass v x low high holds items views _ kept at =
+  pub pushes : (Sound : X → Type 0) (sees : List (ℕ × X) → List (ℕ × X) → Type 0) (n pass : ℕ) (v : List (Option (List (ℕ × X)))) (x : ℕ × X) → 0 < x.0 → x.0 < 6 → Sound x.1 → HoldsRole v x.0 → StaysAtOffer sees n x.0 (loads (list_of v x.0)) x.1 → Pushes (Kept Sound sees) n pass v x (λ w. w ≡ added v x.0 x)
+  pushes Sound sees n pass v x low high sound holds stays items views room kept at =
       let seat = kept.0 in let lists = kept.1 in let whole = kept.3 in let now = grown lists x.0 x in
       let taken : now 0 ≡ lists 0 = grown_other lists x.0 x 0 (λ e. omega arith) in
       let joined : now 0 ++ (items ++ x ∷ []) ≡ (lists 0 ++ items) ++ x ∷ [] = ap (λ l. l ++ (items ++ x ∷ [])) taken ∙ sym (append_assoc (lists 0) items (x ∷ [])) in (
@@ -100,8 +100,10 @@ module _ {X : Type 0} where
                 ap loads (grown_other lists x.0 x feeder is.1) ∙ whole.0 feeder a b ∙ sym (append-nil (from feeder (lists 0 ++ items)))
                 ∙ sym (ap (from feeder) joined ∙ from-append feeder (lists 0 ++ items) x ∙ ap (λ l. from feeder (lists 0 ++ items) ++ l) (cond-false (eqb x.0 feeder) (x.1 ∷ []) [] (ne_eqb x.0 feeder (λ e. is.1 (sym e))))))
                 (eqb_tells feeder x.0)),
-            subst AllFed (sym joined) (fed-append (lists 0 ++ items) x whole.1 low high),
+            subst (AllFed Sound) (sym joined) (fed-append Sound (lists 0 ++ items) x whole.1 low high sound),
           ),
+          subst (λ (l : List (ℕ × X)). sees l (items ++ x ∷ [])) (sym taken)
+              (stays (lists 0) items room (sym (whole.0 x.0 low high) ∙ ap loads (seat_of seat lists views pass v x.0 high kept.2 at holds).1) kept.4),
         ),
         refl,
       )
@@ -110,8 +112,8 @@ module _ {X : Type 0} where
       append-nil [] = refl
       append-nil (y ∷ ys) = ap (λ l. y ∷ l) (append-nil ys)
 
-  pub pops : (pass : ℕ) (v : List (Option (List (ℕ × X)))) → HoldsRole v 0 → Pops Kept pass v (λ x w. (w ≡ added v 0 x) × (0 < x.0) × (x.0 < 6))
-  pops pass v holds x items views kept at =
+  pub pops : (Sound : X → Type 0) (sees : List (ℕ × X) → List (ℕ × X) → Type 0) (pass : ℕ) (v : List (Option (List (ℕ × X)))) → HoldsRole v 0 → StaysAtTake sees (list_of v 0) → Pops (Kept Sound sees) pass v (λ x w. (w ≡ added v 0 x) × (0 < x.0) × (x.0 < 6) × Sound x.1 × WasFront sees (list_of v 0) x)
+  pops Sound sees pass v holds stays x items views kept at =
       let seat = kept.0 in let lists = kept.1 in let whole = kept.3 in let now = grown lists 0 x in
       let joined : now 0 ++ items ≡ lists 0 ++ x ∷ items = ap (λ l. l ++ items) (grown_same lists 0 x) ∙ append_assoc (lists 0) (x ∷ []) items in (
         added v 0 x,
@@ -121,14 +123,28 @@ module _ {X : Type 0} where
           seated_added seat lists views pass v 0 x (omega arith) kept.2 at holds,
           (
             (λ feeder a b. ap loads (grown_other lists 0 x feeder (λ e. omega arith)) ∙ whole.0 feeder a b ∙ ap (from feeder) (sym joined)),
-            subst AllFed (sym joined) whole.1,
+            subst (AllFed Sound) (sym joined) whole.1,
           ),
+          (let mine : lists 0 ≡ list_of v 0 = (seat_of seat lists views pass v 0 (omega arith) kept.2 at holds).1 in
+              subst (λ (l : List (ℕ × X)). sees l items) (ap (λ (l : List (ℕ × X)). l ++ x ∷ []) (sym mine) ∙ sym (grown_same lists 0 x))
+              (stays x items (subst (λ (l : List (ℕ × X)). sees l (x ∷ items)) mine kept.4))),
         ),
-        (let fed = fed_middle (lists 0) x items whole.1 in (refl, fed.0, fed.1)),
+        (let fed = fed_middle Sound (lists 0) x items whole.1 in
+            let mine : lists 0 ≡ list_of v 0 = (seat_of seat lists views pass v 0 (omega arith) kept.2 at holds).1 in
+            (refl, fed.0, fed.1, fed.2, (items, subst (λ (l : List (ℕ × X)). sees l (x ∷ items)) mine kept.4))),
       )
 
-  pub learns : (pass : ℕ) (v : List (Option (List (ℕ × X)))) → Learns Kept pass v (Moment v)
-  learns pass v items views kept at = (pass, views, kept, at)
+  -- what the rule tells of the watch beside a feeder's pass, and beside the taker's
+  pub learns_beside : (Sound : X → Type 0) (sees : List (ℕ × X) → List (ℕ × X) → Type 0) (pass : ℕ) (v : List (Option (List (ℕ × X)))) → Learns (Kept Sound sees) pass v (SawBeside sees v)
+  learns_beside Sound sees pass v items views kept at feeder low high holds =
+      (kept.1 0, sym (kept.3.0 feeder low high) ∙ ap loads (seat_of kept.0 kept.1 views pass v feeder high kept.2 at holds).1, kept.4)
+
+  pub learns_taken : (Sound : X → Type 0) (sees : List (ℕ × X) → List (ℕ × X) → Type 0) (pass : ℕ) (v : List (Option (List (ℕ × X)))) → HoldsRole v 0 → Learns (Kept Sound sees) pass v (λ items. sees (list_of v 0) items)
+  learns_taken Sound sees pass v holds items views kept at =
+      subst (λ (l : List (ℕ × X)). sees l items) (seat_of kept.0 kept.1 views pass v 0 (omega arith) kept.2 at holds).1 kept.4
+
+  pub learns : (Sound : X → Type 0) (sees : List (ℕ × X) → List (ℕ × X) → Type 0) (pass : ℕ) (v : List (Option (List (ℕ × X)))) → Learns (Kept Sound sees) pass v (Moment Sound sees v)
+  learns Sound sees pass v items views kept at = (pass, views, kept, at)
 
   -- a view that holds one role alone, after one parcel more
   pub only_added : (v : List (Option (List (ℕ × X)))) (role : ℕ) (x : ℕ × X) → role < 6 → IsOnly role v → IsOnly role (added v role x)

@@ -56,8 +56,8 @@ module _ {X : Type 0} where
   abbrev SeatedAt : (ℕ → List (ℕ × X)) → ℕ → List (Option (List (ℕ × X))) → ℕ → ℕ → Type 0
   SeatedAt lists j u r place = part u r ≡ cond (eqb j place) (Some (lists r)) None
 
-  pub begins : Kept [] (everything {X = X} ∷ [])
-  begins = ((λ _. 0), (λ _. []), ((λ r h. omega arith), at, long), ((λ feeder a b. refl), tt))
+  pub begins : (Sound : X → Type 0) (sees : List (ℕ × X) → List (ℕ × X) → Type 0) → sees [] [] → Kept Sound sees [] (everything {X = X} ∷ [])
+  begins Sound sees none = ((λ _. 0), (λ _. []), ((λ r h. omega arith), at, long), ((λ feeder a b. refl), tt), none)
     where
       all : (r : ℕ) → r < 6 → part (everything {X = X}) r ≡ Some []
       all zero h = refl
@@ -76,8 +76,8 @@ module _ {X : Type 0} where
       long zero u e = ap length (sym (some-injective (everything {X = X}) u e))
       long (suc j) u e = absurd (some-ne-none u (sym e))
 
-  pub forks : (role pass : ℕ) (v : List (Option (List (ℕ × X)))) → role < 6 → HoldsRole v role → Forks Kept pass v (without v role) (only role (part v role))
-  forks role pass v small holds items views kept at =
+  pub forks : (Sound : X → Type 0) (sees : List (ℕ × X) → List (ℕ × X) → Type 0) (role pass : ℕ) (v : List (Option (List (ℕ × X)))) → role < 6 → HoldsRole v role → Forks (Kept Sound sees) pass v (without v role) (only role (part v role))
+  forks Sound sees role pass v small holds items views kept at =
       let seat = kept.0 in let lists = kept.1 in let seated = kept.2 in
       let left = without v role in let right = only role (part v role) in let vs = set views pass left in
       let mine = seat_of seat lists views pass v role small seated at holds in
@@ -124,6 +124,7 @@ module _ {X : Type 0} where
               (last_or vs right u j e)),
         ),
         kept.3,
+        kept.4,
       )
 
   -- joining
@@ -149,8 +150,8 @@ module _ {X : Type 0} where
   length-united (a ∷ v) [] e = refl
   length-united (a ∷ v) (b ∷ w) e = ap suc (length-united v w (omega arith))
 
-  pub merges : (pass : ℕ) (v : List (Option (List (ℕ × X)))) (other : ℕ) (w : List (Option (List (ℕ × X)))) → Merges Kept pass v other w (both_of v w) nothing
-  merges pass v other w items views kept at two at' =
+  pub merges : (Sound : X → Type 0) (sees : List (ℕ × X) → List (ℕ × X) → Type 0) (pass : ℕ) (v : List (Option (List (ℕ × X)))) (other : ℕ) (w : List (Option (List (ℕ × X)))) → Merges (Kept Sound sees) pass v other w (both_of v w) nothing
+  merges Sound sees pass v other w items views kept at two at' =
       let seat = kept.0 in let lists = kept.1 in let seated = kept.2 in let both = both_of v w in let vs = set views pass both in
       let was : get_elem? views other ≡ some w = ⊎_elim (λ (t : (other ≡ pass) × (both ≡ w)). absurd (two t.0)) (λ (t : (other ≢ pass) × (get_elem? views other ≡ some w)). t.1) (at_set views pass other both w at') in
       let long : length v ≡ 6 = seated.2 pass v at in let long' : length w ≡ 6 = seated.2 other w was in
@@ -203,4 +204,5 @@ module _ {X : Type 0} where
               (at_set vs other j nothing u e)),
         ),
         kept.3,
+        kept.4,
       )

@@ -1,25 +1,24 @@
 -- What contracts see of an inbox, of its passes, and of one that was closed.
-use Rattle.std.specs.Prelude.{ℕ, List, [], ◌∷◌}
+use Rattle.std.specs.Prelude.{ℕ, ◌+◌, length, List, [], ◌∷◌}
 use Rattle.atomic_table.specs.Seated.{TableId}
-use Rattle.crossbeam_queue.specs.Fifo.{Held}
 use Rattle.crossbeam_queue.specs.Passes.{view, ruled_capacity}
 use Rattle.inbox.specs.declared.passes.Inbox.{Inbox}
 use Rattle.inbox.specs.declared.load.Load.{Load}
 use Rattle.inbox.specs.declared.passes.FeedPass.{FeedPass}
 use Rattle.inbox.specs.declared.passes.TakePass.{TakePass}
 use Rattle.inbox.specs.declared.passes.Closed.{Closed}
-use Rattle.inbox.specs.Roles.{loads, list_of, Moment}
+use Rattle.inbox.specs.Roles.{loads, list_of}
 
 -- the same, once for each feeder
 abbrev pub five_times : {A : Type 0} → A → List A
 five_times x = x ∷ x ∷ x ∷ x ∷ x ∷ []
 
 -- which inbox it is
-abbrev pub id_of : Inbox → TableId
+abbrev pub id_of : {W : Type 0} → Inbox W → TableId
 id_of inbox = inbox.queue.table.shared.table_id
 
 -- how many loads it has room for
-abbrev pub room_of : Inbox → ℕ
+abbrev pub room_of : {W : Type 0} → Inbox W → ℕ
 room_of inbox = ruled_capacity inbox.queue
 
 -- the inbox of a pass
@@ -40,13 +39,6 @@ offered pass = loads (list_of (view pass.pass) pass.feeder)
 abbrev pub taken : TakePass → List (ℕ × Load)
 taken pass = list_of (view pass.pass) 0
 
--- at a moment of the call, which found this pass as it was, the queue held so many loads
-abbrev pub HeldForFeeder : ℕ → FeedPass → Type 0
-HeldForFeeder count pass = Held count (Moment (view pass.pass))
-
-abbrev pub HeldForTaker : ℕ → TakePass → Type 0
-HeldForTaker count pass = Held count (Moment (view pass.pass))
-
 -- what the feeder's pass had offered when the inbox was closed
 abbrev pub closed_offered : Closed → ℕ → List Load
 closed_offered closed feeder = loads (list_of (view closed.pass) feeder)
@@ -54,3 +46,8 @@ closed_offered closed feeder = loads (list_of (view closed.pass) feeder)
 -- what the taker's pass had taken then
 abbrev pub closed_taken : Closed → List (ℕ × Load)
 closed_taken closed = list_of (view closed.pass) 0
+
+-- how many loads the five feeders had offered then
+abbrev pub offered_in_all : Closed → ℕ
+offered_in_all c =
+    length (closed_offered c 1) + length (closed_offered c 2) + length (closed_offered c 3) + length (closed_offered c 4) + length (closed_offered c 5)

@@ -14,10 +14,10 @@ module _ {X : Type 0} where
   from feeder [] = []
   from feeder (p ∷ parcels) = cond (p.0 == feeder) (p.1 ∷ from feeder parcels) (from feeder parcels)
 
-  -- each parcel carries the number of a feeder
-  abbrev pub AllFed : List (ℕ × X) → Type 0
-  AllFed [] = ⊤
-  AllFed (p ∷ parcels) = (0 < p.0) × (p.0 < 6) × AllFed parcels
+  -- each parcel carries the number of a feeder, and a sound load
+  abbrev pub AllFed : (X → Type 0) → List (ℕ × X) → Type 0
+  AllFed Sound [] = ⊤
+  AllFed Sound (p ∷ parcels) = (0 < p.0) × (p.0 < 6) × Sound p.1 × AllFed Sound parcels
 
   abbrev pub listed : Option (List (ℕ × X)) → List (ℕ × X)
   listed None = []
@@ -88,18 +88,38 @@ module _ {X : Type 0} where
       × ((pass : ℕ) (view : List (Option (List (ℕ × X)))) → get_elem? views pass ≡ some view → length view ≡ 6)
 
   -- what each feeder offered is its loads among those taken, and then its loads among those in the queue
-  abbrev pub Whole : (ℕ → List (ℕ × X)) → List (ℕ × X) → Type 0
-  Whole lists items =
+  abbrev pub Whole : (X → Type 0) → (ℕ → List (ℕ × X)) → List (ℕ × X) → Type 0
+  Whole Sound lists items =
       ((feeder : ℕ) → 0 < feeder → feeder < 6 → loads (lists feeder) ≡ from feeder (lists 0 ++ items))
-      × AllFed (lists 0 ++ items)
+      × AllFed Sound (lists 0 ++ items)
 
-  -- the rule of an inbox
-  abbrev pub Kept : List (ℕ × X) → List (List (Option (List (ℕ × X)))) → Type 0
-  Kept items views = (seat : ℕ → ℕ) × (lists : ℕ → List (ℕ × X)) × Seated seat lists views × Whole lists items
+  -- the rule of an inbox for sound loads under a watch, which is of what was taken and of what the queue holds
+  abbrev pub Kept : (X → Type 0) → (List (ℕ × X) → List (ℕ × X) → Type 0) → List (ℕ × X) → List (List (Option (List (ℕ × X)))) → Type 0
+  Kept Sound sees items views = (seat : ℕ → ℕ) × (lists : ℕ → List (ℕ × X)) × Seated seat lists views × Whole Sound lists items × sees (lists 0) items
 
   -- a state that the rule allows, in which the queue holds the items and one pass has the view
-  abbrev pub Moment : List (Option (List (ℕ × X))) → List (ℕ × X) → Type 0
-  Moment view items = (pass : ℕ) × (views : List (List (Option (List (ℕ × X))))) × Kept items views × (get_elem? views pass ≡ some view)
+  abbrev pub Moment : (X → Type 0) → (List (ℕ × X) → List (ℕ × X) → Type 0) → List (Option (List (ℕ × X))) → List (ℕ × X) → Type 0
+  Moment Sound sees view items = (pass : ℕ) × (views : List (List (Option (List (ℕ × X))))) × Kept Sound sees items views × (get_elem? views pass ≡ some view)
+
+  -- the watch stays when a feeder that has offered so much adds one more load to a queue that has room
+  abbrev pub StaysAtOffer : (List (ℕ × X) → List (ℕ × X) → Type 0) → ℕ → ℕ → List X → X → Type 0
+  StaysAtOffer sees room feeder done x = (taken items : List (ℕ × X)) → length items < room → from feeder (taken ++ items) ≡ done → sees taken items → sees taken (items ++ (feeder, x) ∷ [])
+
+  -- the watch stays when the front parcel goes to the taker, who has taken so much
+  abbrev pub StaysAtTake : (List (ℕ × X) → List (ℕ × X) → Type 0) → List (ℕ × X) → Type 0
+  StaysAtTake sees taken = (x : ℕ × X) (items : List (ℕ × X)) → sees taken (x ∷ items) → sees (taken ++ x ∷ []) items
+
+  -- the parcel stood at the front of the queue, with these behind it, when so much had been taken
+  abbrev pub WasFront : (List (ℕ × X) → List (ℕ × X) → Type 0) → List (ℕ × X) → ℕ × X → Type 0
+  WasFront sees taken x = (behind : List (ℕ × X)) × sees taken (x ∷ behind)
+
+  -- at a moment at which the feeder had offered so much, the queue held these parcels, and the watch was so
+  abbrev pub Saw : (List (ℕ × X) → List (ℕ × X) → Type 0) → ℕ → List X → List (ℕ × X) → Type 0
+  Saw sees feeder done items = (taken : List (ℕ × X)) × (from feeder (taken ++ items) ≡ done) × sees taken items
+
+  -- the same of each feeder whose role the view holds
+  abbrev pub SawBeside : (List (ℕ × X) → List (ℕ × X) → Type 0) → List (Option (List (ℕ × X))) → List (ℕ × X) → Type 0
+  SawBeside sees view items = (feeder : ℕ) → 0 < feeder → feeder < 6 → HoldsRole view feeder → Saw sees feeder (loads (list_of view feeder)) items
 
   -- the new view holds, of each role that the old one held, the same list
   abbrev pub KeepsRoles : List (Option (List (ℕ × X))) → List (Option (List (ℕ × X))) → Type 0

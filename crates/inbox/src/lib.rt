@@ -7,9 +7,11 @@ mod load;
 mod passes;
 mod rule;
 mod seats;
+mod watch;
 
 pub use load::{Ending, Full, Load};
 pub use passes::{Closed, FeedPass, Inbox, TakePass};
+pub use watch::{Unwatched, Watch};
 
 #[cfg(test)]
 mod tests;

@@ -2,13 +2,15 @@ ghost use Rattle.std.specs.Prelude.{◌≡◌, ◌<◌, []};
 ghost use Rattle.crossbeam_queue.specs.Passes.{view};
 ghost use Rattle.inbox.specs.Roles.{IsOnly, IsTally};
 
+use crate::load::Load;
 use crate::rule::{Pass, Queue};
+use crate::watch::{Unwatched, Watch};
 
 /// The loads of feeders 1 to 5 to one taker, in a queue of fixed room that threads share. Contracts see which inbox it
 /// is, and its room. Only `Inbox::new` takes memory. No clause says that a call returns.
 #[derive(Drop)]
-pub struct Inbox {
-    pub(crate) queue: Queue,
+pub struct Inbox<W: Watch<Load> = Unwatched> {
+    pub(crate) queue: Queue<W>,
 }
 
 /// The right to offer as one feeder, 1 to 5. Contracts see its inbox, the feeder's number and the loads that it has

@@ -1,8 +1,10 @@
 // The rule that the queue of an inbox keeps, stated for a role's number.
 use crate::load::Load;
+use crate::watch::Watch;
 use crossbeam_queue::RuledArrayQueue;
 use crossbeam_queue::protocol::{Join, Lesson, Outcome, Protocol, Split};
 use std::collections::LinkedList;
+use std::marker::PhantomData;
 
 /// A load with the number of its feeder.
 pub(crate) type Parcel = (u8, Load);
@@ -12,57 +14,68 @@ pub(crate) type Roles = LinkedList<Option<LinkedList<(u8, Load)>>>;
 
 pub(crate) type Pass = crossbeam_queue::Pass<Parcel, Roles>;
 
-pub(crate) type Queue = RuledArrayQueue<Parcel, Roles, Mail>;
+pub(crate) type Queue<W> = RuledArrayQueue<Parcel, Roles, Mail<W>>;
 
-pub struct Mail;
+pub struct Mail<W> {
+    watch: PhantomData<W>,
+}
 
-impl Protocol<Parcel, Roles> for Mail {
+impl<W: Watch<Load>> Protocol<Parcel, Roles> for Mail<W> {
     ghost use Rattle.inbox.specs.Roles.{everything, Kept};
+    ghost use Rattle.inbox.specs.Sound.{IsSound};
 
-    ghost holds = { Kept };
+    ghost holds = { Kept IsSound W.sees };
 
     ghost first = { everything };
 }
 
 // A feeder's parcel has joined the queue.
-pub struct Offers;
+pub struct Offers<W> {
+    watch: PhantomData<W>,
+}
 
-impl Outcome<Parcel, Roles> for Offers {
+impl<W> Outcome<Parcel, Roles> for Offers<W> {
     ghost use Rattle.std.specs.Prelude.{◌≡◌};
     ghost use Rattle.inbox.specs.Roles.{added};
 
     ghost then = { λ v x w. w ≡ added v x.0 x };
 }
 
-impl Lesson<Parcel, Roles> for Offers {
-    ghost use Rattle.inbox.specs.Roles.{Moment};
+impl<W: Watch<Load>> Lesson<Parcel, Roles> for Offers<W> {
+    ghost use Rattle.inbox.specs.Roles.{SawBeside};
 
-    ghost fact = { Moment };
+    ghost fact = { SawBeside W.sees };
 }
 
 // The front parcel was taken.
-pub struct Takes;
-
-impl Outcome<Parcel, Roles> for Takes {
-    ghost use Rattle.std.specs.Prelude.{◌≡◌, ◌<◌};
-    ghost use Rattle.inbox.specs.Roles.{added};
-
-    ghost then = { λ v x w. (w ≡ added v 0 x) × (0 < x.0) × (x.0 < 6) };
+pub struct Takes<W> {
+    watch: PhantomData<W>,
 }
 
-impl Lesson<Parcel, Roles> for Takes {
-    ghost use Rattle.inbox.specs.Roles.{Moment};
+impl<W: Watch<Load>> Outcome<Parcel, Roles> for Takes<W> {
+    ghost use Rattle.std.specs.Prelude.{◌≡◌, ◌<◌};
+    ghost use Rattle.inbox.specs.Roles.{added, list_of, WasFront};
+    ghost use Rattle.inbox.specs.Sound.{IsSound};
 
-    ghost fact = { Moment };
+    ghost then = { λ v x w. (w ≡ added v 0 x) × (0 < x.0) × (x.0 < 6) × IsSound x.1 × WasFront W.sees (list_of v 0) x };
+}
+
+impl<W: Watch<Load>> Lesson<Parcel, Roles> for Takes<W> {
+    ghost use Rattle.inbox.specs.Roles.{list_of};
+
+    ghost fact = { λ v items. W.sees (list_of v 0) items };
 }
 
 // What the rule says of the moment.
-pub struct Sees;
+pub struct Sees<W> {
+    watch: PhantomData<W>,
+}
 
-impl Lesson<Parcel, Roles> for Sees {
+impl<W: Watch<Load>> Lesson<Parcel, Roles> for Sees<W> {
     ghost use Rattle.inbox.specs.Roles.{Moment};
+    ghost use Rattle.inbox.specs.Sound.{IsSound};
 
-    ghost fact = { Moment };
+    ghost fact = { Moment IsSound W.sees };
 }
 
 // A role goes to a pass of its own.

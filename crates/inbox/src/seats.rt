@@ -2,17 +2,19 @@
 ghost use Rattle.std.specs.Prelude.{◌≡◌, ◌<◌, ◌+◌, [], ◌∷◌, Some, map, MatchOption, MatchResult};
 ghost use Rattle.crossbeam_queue.specs.Fifo.{Held};
 ghost use Rattle.crossbeam_queue.specs.Passes.{view, IsPassOf, IsSamePass, ruled_capacity};
-ghost use Rattle.inbox.specs.Roles.{added, everything, loads, list_of, part, roles_in, IsOnly, KeepsRoles, Moment};
+ghost use Rattle.inbox.specs.Roles.{added, everything, loads, list_of, part, roles_in, IsOnly, KeepsRoles, Moment, Saw, StaysAtOffer, StaysAtTake, WasFront};
+ghost use Rattle.inbox.specs.Sound.{IsSound};
 ghost use Rattle.inbox.specs.Passes.{five_times, inbox_of, taker_inbox, feeder_in, offered, taken};
 
 use crate::load::Load;
 use crate::passes::{FeedPass, TakePass};
 use crate::rule::{Cut, Offers, Pass, Queue, Rejoin, Sees, Takes};
+use crate::watch::Watch;
 use std::sync::Wait;
 
 // Adds a load at the back, as the feeder.
-pub fn push<R: Wait>(
-    queue: &Queue,
+pub fn push<W: Watch<Load>, R: Wait>(
+    queue: &Queue<W>,
     rt: &R,
     pass: &mut Pass,
     feeder: u8,
@@ -20,32 +22,42 @@ pub fn push<R: Wait>(
 ) -> Result<(), Load>
     requires queue { IsPassOf queue.now pass.old }
     requires feeder { (0 < feeder) × (feeder < 6) × IsOnly feeder (view pass.old) }
+    requires sound { IsSound load }
+    requires watch { StaysAtOffer W.sees (ruled_capacity queue.now) feeder (loads (list_of (view pass.old) feeder)) load }
     ensures same { IsSamePass pass.old pass.new }
     ensures only { IsOnly feeder (view pass.new) }
-    ensures step { MatchResult result (λ _. view pass.new ≡ added (view pass.old) feeder (feeder, load)) (λ x. (x ≡ load) × (view pass.new ≡ view pass.old) × Held (ruled_capacity queue.now) (Moment (view pass.old))) }
+    ensures step { MatchResult result
+        (λ _. view pass.new ≡ added (view pass.old) feeder (feeder, load))
+        (λ x. (x ≡ load) × (view pass.new ≡ view pass.old)
+        × Held (ruled_capacity queue.now) (Saw W.sees feeder (loads (list_of (view pass.old) feeder)))) }
 {
-    match queue.push_as::<Offers, R>(rt, pass, (feeder, load)) {
+    match queue.push_as::<Offers<W>, R>(rt, pass, (feeder, load)) {
         Ok(()) => Ok(()),
         Err((_, load)) => Err(load),
     }
 }
 
 // Takes the parcel at the front, as the taker.
-pub fn pop<R: Wait>(queue: &Queue, rt: &R, pass: &mut Pass) -> Option<(u8, Load)>
+pub fn pop<W: Watch<Load>, R: Wait>(queue: &Queue<W>, rt: &R, pass: &mut Pass) -> Option<(u8, Load)>
     requires queue { IsPassOf queue.now pass.old }
     requires taker { IsOnly 0 (view pass.old) }
+    requires watch { StaysAtTake W.sees (list_of (view pass.old) 0) }
     ensures same { IsSamePass pass.old pass.new }
     ensures only { IsOnly 0 (view pass.new) }
-    ensures step { MatchOption result ((view pass.new ≡ view pass.old) × Held 0 (Moment (view pass.old))) (λ x. (view pass.new ≡ added (view pass.old) 0 x) × (0 < x.0) × (x.0 < 6)) }
+    ensures step { MatchOption result
+        ((view pass.new ≡ view pass.old) × Held 0 (W.sees (list_of (view pass.old) 0)))
+        (λ x. (view pass.new ≡ added (view pass.old) 0 x) × (0 < x.0) × (x.0 < 6) × IsSound x.1
+        × WasFront W.sees (list_of (view pass.old) 0) x) }
 {
-    queue.pop_as::<Takes, R>(rt, pass)
+    queue.pop_as::<Takes<W>, R>(rt, pass)
 }
 
 // Gives each role of a pass that has done nothing to a pass of its own: feeders 1 to 5, and the taker.
-pub fn split(queue: &Queue, mut pass: Pass) -> ([FeedPass; 5], TakePass)
+pub fn split<W: Watch<Load>>(queue: &Queue<W>, mut pass: Pass) -> ([FeedPass; 5], TakePass)
     requires queue { IsPassOf queue.now pass }
     requires all { view pass ≡ everything }
-    ensures inbox { (map inbox_of result.0 ≡ five_times queue.now.table.shared.table_id) × (taker_inbox result.1 ≡ queue.now.table.shared.table_id) }
+    ensures inbox { (map inbox_of result.0 ≡ five_times queue.now.table.shared.table_id)
+        × (taker_inbox result.1 ≡ queue.now.table.shared.table_id) }
     ensures feeders { map feeder_in result.0 ≡ 1 ∷ 2 ∷ 3 ∷ 4 ∷ 5 ∷ [] }
     ensures none { (map offered result.0 ≡ five_times []) × (taken result.1 ≡ []) }
 {
@@ -73,7 +85,7 @@ fn feed(pass: Pass, feeder: u8) -> FeedPass
 }
 
 // Joins the passes of the feeders into the taker's.
-pub fn joined(queue: &Queue, feeds: [FeedPass; 5], taker: TakePass) -> Pass
+pub fn joined<W: Watch<Load>>(queue: &Queue<W>, feeds: [FeedPass; 5], taker: TakePass) -> Pass
     requires feeds { map inbox_of feeds ≡ five_times queue.now.table.shared.table_id }
     requires taker { taker_inbox taker ≡ queue.now.table.shared.table_id }
     ensures queue { IsPassOf queue.now result }
@@ -100,7 +112,7 @@ pub fn apart(feeds: [FeedPass; 5]) -> (FeedPass, FeedPass, FeedPass, FeedPass, F
 }
 
 // Joins a feeder's pass into another. The rule tells that they held no role twice.
-fn bring(queue: &Queue, into: &mut Pass, feed: FeedPass)
+fn bring<W: Watch<Load>>(queue: &Queue<W>, into: &mut Pass, feed: FeedPass)
     requires into { IsPassOf queue.now into.old }
     requires feed { inbox_of feed ≡ queue.now.table.shared.table_id }
     ensures same { IsSamePass into.old into.new }
@@ -110,14 +122,14 @@ fn bring(queue: &Queue, into: &mut Pass, feed: FeedPass)
 {
     let FeedPass { pass, feeder: _ } = feed;
     queue.absorb::<Rejoin>(into, pass);
-    queue.learn_as::<Sees>(into);
+    queue.learn_as::<Sees<W>>(into);
 }
 
 // How many loads the queue holds when every role is with this pass.
-pub fn count<R: Wait>(queue: &Queue, rt: &R, pass: &mut Pass) -> u64
+pub fn count<W: Watch<Load>, R: Wait>(queue: &Queue<W>, rt: &R, pass: &mut Pass) -> u64
     requires { IsPassOf queue.now pass.old }
     ensures same { view pass.new ≡ view pass.old }
-    ensures count { Held result (Moment (view pass.old)) }
+    ensures count { Held result (Moment IsSound W.sees (view pass.old)) }
 {
-    queue.len_as::<Sees, R>(rt, pass) as u64
+    queue.len_as::<Sees<W>, R>(rt, pass) as u64
 }

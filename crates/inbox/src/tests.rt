@@ -1,5 +1,6 @@
 ghost use Rattle.std.specs.Prelude.{◌≡◌};
 ghost use Rattle.inbox.specs.Passes.{id_of, inbox_of, taker_inbox};
+ghost use Rattle.inbox.specs.Sound.{IsSound};
 
 use super::*;
 use as_base::Item;
@@ -9,13 +10,15 @@ use std::thread;
 use std::thread::Threads;
 
 // The loads that each feeder offers.
-const LOADS: u64 = 1000;
+const LOADS: u32 = 1000;
 
 // So many calls are far more than a run needs.
 const TRIES: u64 = 100_000_000;
 
-fn line(number: u64) -> Load {
-    Load::Line(Item::Delete(number))
+fn line(number: u32) -> Load
+    ensures { IsSound result }
+{
+    Load::Line(Item::Delete(u64::from(number)))
 }
 
 fn number(load: &Load) -> Option<u64> {
@@ -62,7 +65,7 @@ struct Feeder<'a> {
 }
 
 impl<'a> Feeder<'a> {
-    fn offer<R: Wait>(&mut self, rt: &R, number: u64) -> bool {
+    fn offer<R: Wait>(&mut self, rt: &R, number: u32) -> bool {
         self.inbox.offer(rt, &mut self.pass, line(number)).is_ok()
     }
 
@@ -100,7 +103,7 @@ impl<'a> Taker<'a> {
         let mut seen = [0u64; 5];
         let mut taken = 0;
         for _ in 0..TRIES {
-            if taken >= 5 * LOADS {
+            if taken >= 5 * u64::from(LOADS) {
                 return seen;
             }
             match self.take(rt) {
@@ -156,7 +159,7 @@ fn five_threads_to_one(rt: HostRuntime) -> Result<(), Fail> {
             at(inbox, fifth),
         );
         let seen = through(&rt, feeders, Taker { inbox, pass });
-        assert_eq!(rt; seen, [LOADS; 5]);
+        assert_eq!(rt; seen, [u64::from(LOADS); 5]);
     }
     Ok(())
 }

@@ -2,22 +2,21 @@
 #![tactic(auto)]
 
 ghost use Rattle.std.specs.Prelude.{◌≡◌, ℕ, ℤ, ◌<◌, ◌≤◌};
-ghost use Rattle.key_partition.specs.Part.{part_number};
+ghost use Rattle.key_partition.specs.Part.{part_of};
 
 /// The part, from 0 to `parts` - 1, that the records with the key go to: the key modulo 2^64, modulo `parts`.
 /// There are 1 to 64 parts.
 pub fn part_of(key: i64, parts: u16) -> u16
     requires some { 1 ≤ parts }
     requires few { parts ≤ 64 }
-    ensures { result ≡ part_number key parts }
+    ensures { result ≡ part_of key parts }
 {
     (key.cast_unsigned() % u64::from(parts)) as u16
 }
 
-/// A law, with nothing to run: a key goes to one part, whatever its record, and that is one of the parts.
-pub fn each_key_has_one_part()
-    ensures one { (first second : ℤ) (parts : ℕ) → first ≡ second → part_number first parts ≡ part_number second parts }
-    ensures among { (key : ℤ) (parts : ℕ) → 1 ≤ parts → part_number key parts < parts }
+/// A law, with nothing to run: the part of a key is one of the parts.
+pub fn each_key_has_a_part()
+    ensures { (key : ℤ) (parts : ℕ) → 1 ≤ parts → part_of key parts < parts }
 {}
 
 #[cfg(test)]

@@ -1,7 +1,7 @@
 //! A queue between two stages, with room for so many items, all of it made at the start.
 #![tactic(auto)]
 
-ghost use Rattle.std.specs.Prelude.{◌≡◌, ◌<◌, ◌≤◌, ◌++◌, ◌↔◌, [], ◌∷◌, drop, length, slice_get, IfErr, IfOk, IsOk, IsTrue, OnOk};
+ghost use Rattle.std.specs.Prelude.{◌≡◌, ◌<◌, ◌≤◌, ◌++◌, ◌↔◌, [], ◌∷◌, drop, length, slice_get, IfErr, IfOk, IfSome, IsOk, IsTrue, OnOk};
 ghost use Rattle.lane.specs.Queue.{queue, HasRoom};
 
 use as_base::NoMemory;
@@ -52,6 +52,7 @@ impl<T> Lane<T> {
     pub fn pop(&mut self) -> Option<T>
         ensures value { result ≡ slice_get self.old.items 0 }
         ensures items { self.new ≡ queue (drop 1 self.old.items) self.old.room }
+        ensures front { IfSome result (λ x. self.old.items ≡ x ∷ self.new.items) }
     {
         self.ring.pop_front()
     }

@@ -11,10 +11,11 @@ use Rattle.as_base.specs.declared.item.Given.{Given}
 use Rattle.query_text.specs.declared.ast.Op.{Op}
 use Rattle.query_text.specs.declared.ast.Op.TheVariants.{Lt, Le, Eq, Ge, Gt}
 use Rattle.query_text.specs.declared.ast.Cond.{Cond}
-use Rattle.query_text.specs.Spelling.{FitsSigned64, FitsConds}
-use Rattle.query_plan.specs.Limits.{least, greatest, low_told, high_told, low_of, high_of, bounds_of}
-use Rattle.query_plan.specs.Meaning.{compares, field_of, meets_all, FitsGiven}
-use Rattle.query_plan.proofs.LimitLaws.{above_least, below_greatest, fits_at}
+use Rattle.as_words.specs.Number.{IsSigned}
+use Rattle.query_text.specs.Spelling.{FitsConds}
+use Rattle.query_plan.specs.Limits.{lowest, highest, low_by, high_by, low_of, high_of, bounds_of}
+use Rattle.query_plan.specs.Meaning.{compares, field_value, meets_all, FitsGiven}
+use Rattle.query_plan.proofs.LimitLaws.{above_lowest, below_highest, fits_at}
 
 -- orders and their tests
 at_most : (a b : ℤ) → a ≤ℤ b → int_le a b ≡ true
@@ -61,19 +62,19 @@ at_least-next n z =
     (λ l. at_most (n +ℤ pos 1) z (omega (arith, ints, l)) ∙ sym (under n z l))
     (λ l. above (n +ℤ pos 1) z (omega (arith, ints, l)) ∙ sym (not_under n z l))
 
-crossed : (z : ℤ) → (int_le greatest z && int_le z least) ≡ false
+crossed : (z : ℤ) → (int_le highest z && int_le z lowest) ≡ false
 crossed z =
-    by_lt_z z greatest
-    (λ l. neither (int_le greatest z) (int_le z least) (above greatest z l))
-    (λ l. nor (int_le greatest z) (int_le z least) (above z least (omega (arith, ints, l))))
+    by_lt_z z highest
+    (λ l. neither (int_le highest z) (int_le z lowest) (above highest z l))
+    (λ l. nor (int_le highest z) (int_le z lowest) (above z lowest (omega (arith, ints, l))))
 
-less_by : (t : Bool) (n z : ℤ) → (t ≡ true → n ≡ least) → least ≤ℤ z → is_within (if t then greatest else least) z (if t then least else n -ℤ pos 1) ≡ int_lt z n
+less_by : (t : Bool) (n z : ℤ) → (t ≡ true → n ≡ lowest) → lowest ≤ℤ z → is_within (if t then highest else lowest) z (if t then lowest else n -ℤ pos 1) ≡ int_lt z n
 less_by true n z e low = crossed z ∙ sym (not_under z n (omega (arith, ints, e refl, low)))
-less_by false n z e low = both (int_le least z) (int_le z (n -ℤ pos 1)) (int_lt z n) (at_most least z low) (at_most-pred n z)
+less_by false n z e low = both (int_le lowest z) (int_le z (n -ℤ pos 1)) (int_lt z n) (at_most lowest z low) (at_most-pred n z)
 
-more_by : (t : Bool) (n z : ℤ) → (t ≡ true → n ≡ greatest) → z ≤ℤ greatest → is_within (if t then greatest else n +ℤ pos 1) z (if t then least else greatest) ≡ int_lt n z
+more_by : (t : Bool) (n z : ℤ) → (t ≡ true → n ≡ highest) → z ≤ℤ highest → is_within (if t then highest else n +ℤ pos 1) z (if t then lowest else highest) ≡ int_lt n z
 more_by true n z e high = crossed z ∙ sym (not_under n z (omega (arith, ints, e refl, high)))
-more_by false n z e high = both_first (int_le (n +ℤ pos 1) z) (int_le z greatest) (at_most z greatest high) ∙ at_least-next n z
+more_by false n z e high = both_first (int_le (n +ℤ pos 1) z) (int_le z highest) (at_most z highest high) ∙ at_least-next n z
 
 equal_within : (n z : ℤ) → (int_le n z && int_le z n) ≡ int_eq z n
 equal_within n z =
@@ -83,12 +84,12 @@ equal_within n z =
     )
     (Decides-int_eq z n)
 
-told_within : (op : Op) (n z : ℤ) → least ≤ℤ z → z ≤ℤ greatest → is_within (low_told op n) z (high_told op n) ≡ compares z op n
-told_within Lt n z low high = less_by (int_eq n least) n z (Decides-int_eq n least).0 low
-told_within Le n z low high = both (int_le least z) (int_le z n) (int_le z n) (at_most least z low) refl
+told_within : (op : Op) (n z : ℤ) → lowest ≤ℤ z → z ≤ℤ highest → is_within (low_by op n) z (high_by op n) ≡ compares z op n
+told_within Lt n z low high = less_by (int_eq n lowest) n z (Decides-int_eq n lowest).0 low
+told_within Le n z low high = both (int_le lowest z) (int_le z n) (int_le z n) (at_most lowest z low) refl
 told_within Eq n z low high = equal_within n z
-told_within Ge n z low high = both_first (int_le n z) (int_le z greatest) (at_most z greatest high)
-told_within Gt n z low high = more_by (int_eq n greatest) n z (Decides-int_eq n greatest).0 high
+told_within Ge n z low high = both_first (int_le n z) (int_le z highest) (at_most z highest high)
+told_within Gt n z low high = more_by (int_eq n highest) n z (Decides-int_eq n highest).0 high
 
 -- two intervals at once
 above_both : (a b z : ℤ) → int_le (int_max a b) z ≡ (int_le a z && int_le b z)
@@ -149,46 +150,46 @@ made f op n = record { field = f; op = op; value = n }
 
 -- the field is within the interval that the conditions leave of it
 abbrev within : List Cond → Given → ℕ → Bool
-within cs g f = is_within (low_of f cs) (field_of g f) (high_of f cs)
+within cs g f = is_within (low_of f cs) (field_value g f) (high_of f cs)
 
 within_more : (f : ℕ) (op : Op) (n : ℤ) (cs : List Cond) (g : Given)
-    → is_within (int_max (low_told op n) (low_of f cs)) (field_of g f) (int_min (high_told op n) (high_of f cs)) ≡ (is_within (low_told op n) (field_of g f) (high_told op n) && within cs g f)
-within_more f op n cs g = within_both (low_told op n) (low_of f cs) (field_of g f) (high_told op n) (high_of f cs)
+    → is_within (int_max (low_by op n) (low_of f cs)) (field_value g f) (int_min (high_by op n) (high_of f cs)) ≡ (is_within (low_by op n) (field_value g f) (high_by op n) && within cs g f)
+within_more f op n cs g = within_both (low_by op n) (low_of f cs) (field_value g f) (high_by op n) (high_of f cs)
 
 holds_more : (f : ℕ) (op : Op) (n : ℤ) (cs : List Cond) (g : Given) → f ≤ 4
-    → holds_all (bounds_of (made f op n ∷ cs)) g ≡ (is_within (low_told op n) (field_of g f) (high_told op n) && holds_all (bounds_of cs) g)
+    → holds_all (bounds_of (made f op n ∷ cs)) g ≡ (is_within (low_by op n) (field_value g f) (high_by op n) && holds_all (bounds_of cs) g)
 holds_more zero op n cs g h =
     let W : ℕ → Bool = within cs g in
     ap (λ x. (x && (W 1 && W 2)) && (W 3 && W 4)) (within_more 0 op n cs g)
-    ∙ to_front-0 (is_within (low_told op n) (field_of g 0) (high_told op n)) (W 0) (W 1 && W 2) (W 3 && W 4)
+    ∙ to_front-0 (is_within (low_by op n) (field_value g 0) (high_by op n)) (W 0) (W 1 && W 2) (W 3 && W 4)
 holds_more (suc zero) op n cs g h =
     let W : ℕ → Bool = within cs g in
     ap (λ x. (W 0 && (x && W 2)) && (W 3 && W 4)) (within_more 1 op n cs g)
-    ∙ to_front-1 (is_within (low_told op n) (field_of g 1) (high_told op n)) (W 0) (W 1) (W 2) (W 3 && W 4)
+    ∙ to_front-1 (is_within (low_by op n) (field_value g 1) (high_by op n)) (W 0) (W 1) (W 2) (W 3 && W 4)
 holds_more (suc (suc zero)) op n cs g h =
     let W : ℕ → Bool = within cs g in
     ap (λ x. (W 0 && (W 1 && x)) && (W 3 && W 4)) (within_more 2 op n cs g)
-    ∙ to_front-2 (is_within (low_told op n) (field_of g 2) (high_told op n)) (W 0) (W 1) (W 2) (W 3 && W 4)
+    ∙ to_front-2 (is_within (low_by op n) (field_value g 2) (high_by op n)) (W 0) (W 1) (W 2) (W 3 && W 4)
 holds_more (suc (suc (suc zero))) op n cs g h =
     let W : ℕ → Bool = within cs g in
     ap (λ x. (W 0 && (W 1 && W 2)) && (x && W 4)) (within_more 3 op n cs g)
-    ∙ to_front-3 (is_within (low_told op n) (field_of g 3) (high_told op n)) (W 0 && (W 1 && W 2)) (W 3) (W 4)
+    ∙ to_front-3 (is_within (low_by op n) (field_value g 3) (high_by op n)) (W 0 && (W 1 && W 2)) (W 3) (W 4)
 holds_more (suc (suc (suc (suc zero)))) op n cs g h =
     let W : ℕ → Bool = within cs g in
     ap (λ x. (W 0 && (W 1 && W 2)) && (W 3 && x)) (within_more 4 op n cs g)
-    ∙ to_front-4 (is_within (low_told op n) (field_of g 4) (high_told op n)) (W 0 && (W 1 && W 2)) (W 3) (W 4)
+    ∙ to_front-4 (is_within (low_by op n) (field_value g 4) (high_by op n)) (W 0 && (W 1 && W 2)) (W 3) (W 4)
 holds_more (suc (suc (suc (suc (suc f))))) op n cs g h = absurd (omega (arith, h))
 
-in_all : (g : Given) (f : ℕ) → FitsGiven g → is_within least (field_of g f) greatest ≡ true
+in_all : (g : Given) (f : ℕ) → FitsGiven g → is_within lowest (field_value g f) highest ≡ true
 in_all g f h =
-    let fits : FitsSigned64 (field_of g f) = fits_at (g.key ∷ g.v) f h in
-    and_from (int_le least (field_of g f)) (int_le (field_of g f) greatest) (at_most least (field_of g f) (above_least (field_of g f) fits)) (at_most (field_of g f) greatest (below_greatest (field_of g f) fits))
+    let fits : IsSigned (field_value g f) = fits_at (g.key ∷ g.v) f h in
+    and_from (int_le lowest (field_value g f)) (int_le (field_value g f) highest) (at_most lowest (field_value g f) (above_lowest (field_value g f) fits)) (at_most (field_value g f) highest (below_highest (field_value g f) fits))
 
 -- a record is within the intervals just where it meets each condition
 pub holds_all-bounds_of : (cs : List Cond) (g : Given) → FitsConds cs → FitsGiven g → holds_all (bounds_of cs) g ≡ meets_all cs g
 holds_all-bounds_of [] g h k =
     and_from _ _ (and_from _ _ (in_all g 0 k) (and_from _ _ (in_all g 1 k) (in_all g 2 k))) (and_from _ _ (in_all g 3 k) (in_all g 4 k))
 holds_all-bounds_of (c ∷ cs) g h k =
-    let fits : FitsSigned64 (field_of g c.field) = fits_at (g.key ∷ g.v) c.field k in
+    let fits : IsSigned (field_value g c.field) = fits_at (g.key ∷ g.v) c.field k in
     holds_more c.field c.op c.value cs g h.0.0
-    ∙ ap₂ (λ x y. x && y) (told_within c.op c.value (field_of g c.field) (above_least (field_of g c.field) fits) (below_greatest (field_of g c.field) fits)) (holds_all-bounds_of cs g h.1 k)
+    ∙ ap₂ (λ x y. x && y) (told_within c.op c.value (field_value g c.field) (above_lowest (field_value g c.field) fits) (below_highest (field_value g c.field) fits)) (holds_all-bounds_of cs g h.1 k)

@@ -5,17 +5,16 @@ ghost use Rattle.query_text.specs.declared.ast.Cond.{Cond};
 ghost use Rattle.as_base.specs.Text.{is_text};
 ghost use Rattle.as_base.specs.declared.query.Plan.{Plan};
 ghost use Rattle.query_text.specs.declared.ast.Ast.{Ast};
-ghost use Rattle.query_text.specs.Spelling.{FitsConds, IsTreeOf};
-ghost use Rattle.query_text.specs.Reading.{text_words};
+ghost use Rattle.query_text.specs.Spelling.{FitsConds};
 ghost use Rattle.query_plan.specs.Limits.{bounds_of};
 ghost use Rattle.query_plan.specs.Meaning.{meets_all, FitsGiven};
-ghost use Rattle.query_plan.specs.Planning.{IsTree, plan_of};
+ghost use Rattle.query_plan.specs.Planning.{IsTree, plan, plan_of};
 ghost use Rattle.query_plan.specs.Canonical.{IsCanonical, FitsPlan};
 ghost use Rattle.query_plan.specs.Text.{canonical_text};
 
 /// What `explain` writes of a canonical plan that fits is read and planned as this plan.
 pub fn explained_plans_are_read()
-    ensures { (p : Plan) → IsCanonical p → FitsPlan p → (ast : Ast) × IsTreeOf ast (text_words (canonical_text p)) × (plan_of 4 ast ≡ Ok p) }
+    ensures { (p : Plan) → IsCanonical p → FitsPlan p → plan_of 4 (canonical_text p) ≡ Ok p }
 {}
 
 /// What `explain` writes of a plan that fits is a query text.
@@ -25,7 +24,7 @@ pub fn explained_plans_are_texts()
 
 /// Each plan of a tree that some text has is canonical and fits.
 pub fn plans_are_canonical()
-    ensures { (streams : ℕ) (ast : Ast) (p : Plan) → IsTree ast → plan_of streams ast ≡ Ok p → IsCanonical p × FitsPlan p }
+    ensures { (streams : ℕ) (ast : Ast) (p : Plan) → IsTree ast → plan streams ast ≡ Ok p → IsCanonical p × FitsPlan p }
 {}
 
 /// A record is within the intervals that conditions leave just where it meets each of the conditions.

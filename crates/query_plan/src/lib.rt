@@ -12,7 +12,7 @@ pub use laws::{
     bounds_are_their_conditions, explained_plans_are_read, explained_plans_are_texts,
     plans_are_canonical,
 };
-pub use planning::{Misfit, plan};
+pub use planning::{Misfit, plan, plan_of};
 
 #[cfg(test)]
 mod tests;

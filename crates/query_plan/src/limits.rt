@@ -1,12 +1,12 @@
 ghost use Rattle.std.specs.Prelude.{◌≡◌};
-ghost use Rattle.query_plan.specs.Limits.{low_told as spec_low_told, high_told as spec_high_told, low_of as spec_low_of, high_of as spec_high_of, bounds_of as spec_bounds_of};
+ghost use Rattle.query_plan.specs.Limits.{low_by, high_by, low_of, high_of, bounds_of};
 
 use as_base::Bounds;
 use query_text::{Cond, Op};
 
-/// What `op value` raises the low end to at least. Where no number meets it, that is the greatest number.
-fn low_told(op: Op, value: i64) -> i64
-    ensures { result ≡ spec_low_told op value }
+// What `op value` raises the low end to at least. Where no number meets it, that is the greatest number.
+fn low_by(op: Op, value: i64) -> i64
+    ensures { result ≡ low_by op value }
 {
     match op {
         Op::Lt if value == i64::MIN => i64::MAX,
@@ -17,9 +17,9 @@ fn low_told(op: Op, value: i64) -> i64
     }
 }
 
-/// What `op value` lowers the high end to at most. Where no number meets it, that is the least number.
-fn high_told(op: Op, value: i64) -> i64
-    ensures { result ≡ spec_high_told op value }
+// What `op value` lowers the high end to at most. Where no number meets it, that is the least number.
+fn high_by(op: Op, value: i64) -> i64
+    ensures { result ≡ high_by op value }
 {
     match op {
         Op::Lt if value == i64::MIN => i64::MIN,
@@ -30,27 +30,27 @@ fn high_told(op: Op, value: i64) -> i64
     }
 }
 
-/// The low end that the conditions leave of a field.
+// The low end that the conditions leave of a field.
 fn low_of(field: u8, conds: &[Cond]) -> i64
-    ensures { result ≡ spec_low_of field conds.now }
+    ensures { result ≡ low_of field conds.now }
 {
     let mut low = i64::MIN;
     for cond in conds {
         if cond.field == field {
-            low = low.max(low_told(cond.op, cond.value));
+            low = low.max(low_by(cond.op, cond.value));
         }
     }
     low
 }
 
-/// The high end that the conditions leave of a field.
+// The high end that the conditions leave of a field.
 fn high_of(field: u8, conds: &[Cond]) -> i64
-    ensures { result ≡ spec_high_of field conds.now }
+    ensures { result ≡ high_of field conds.now }
 {
     let mut high = i64::MAX;
     for cond in conds {
         if cond.field == field {
-            high = high.min(high_told(cond.op, cond.value));
+            high = high.min(high_by(cond.op, cond.value));
         }
     }
     high
@@ -58,7 +58,7 @@ fn high_of(field: u8, conds: &[Cond]) -> i64
 
 /// The intervals that the conditions leave.
 pub fn bounds_of(conds: &[Cond]) -> Bounds
-    ensures { result ≡ spec_bounds_of conds.now }
+    ensures { result ≡ bounds_of conds.now }
 {
     Bounds {
         lo: [

@@ -1,25 +1,13 @@
 ghost use Rattle.std.specs.Prelude.{◌≡◌, ◌≤◌, codes};
-ghost use Rattle.query_text.specs.Spelling.{stream_word, column_word, group_word, op_word, field_word};
-ghost use Rattle.query_plan.specs.Text.{opening_as};
+ghost use Rattle.query_text.specs.Names.{column_name, group_name, op_name, field_name};
+ghost use Rattle.query_plan.specs.Text.{verb_word, opening_word};
 
-use as_base::{Col, Group, Kind, StreamId};
+use as_base::{Col, Group, Kind};
 use query_text::Op;
 
-/// A stream.
-pub fn stream(stream: StreamId) -> &'static [u8]
-    ensures { result.now ≡ stream_word stream }
-{
-    match stream {
-        StreamId::A => b"a".as_slice(),
-        StreamId::B => b"b".as_slice(),
-        StreamId::C => b"c".as_slice(),
-        StreamId::D => b"d".as_slice(),
-    }
-}
-
-/// A column.
-pub fn column(column: Col) -> &'static [u8]
-    ensures { result.now ≡ column_word column }
+/// The name of a column.
+pub fn column_name(column: Col) -> &'static [u8]
+    ensures { result.now ≡ column_name column }
 {
     match column {
         Col::V1 => b"v1".as_slice(),
@@ -29,20 +17,20 @@ pub fn column(column: Col) -> &'static [u8]
     }
 }
 
-/// What records are grouped by.
-pub fn group(group: Group) -> &'static [u8]
-    ensures { result.now ≡ group_word group }
+/// The name of what records are grouped by.
+pub fn group_name(group: Group) -> &'static [u8]
+    ensures { result.now ≡ group_name group }
 {
     match group {
         Group::Key => b"key".as_slice(),
-        Group::Col(value) => column(value),
+        Group::Col(value) => column_name(value),
         Group::All => b"all".as_slice(),
     }
 }
 
-/// A comparison.
-pub fn op(op: Op) -> &'static [u8]
-    ensures { result.now ≡ op_word op }
+/// The sign of a comparison.
+pub fn op_name(op: Op) -> &'static [u8]
+    ensures { result.now ≡ op_name op }
 {
     match op {
         Op::Lt => b"<".as_slice(),
@@ -53,10 +41,10 @@ pub fn op(op: Op) -> &'static [u8]
     }
 }
 
-/// A field: 0 for the key, 1 to 4 for v1 to v4.
-pub fn field(field: u8) -> &'static [u8]
+/// The name of a field: 0 for the key, 1 to 4 for v1 to v4.
+pub fn field_name(field: u8) -> &'static [u8]
     requires { field ≤ 4 }
-    ensures { result.now ≡ field_word field }
+    ensures { result.now ≡ field_name field }
 {
     match field {
         0 => b"key".as_slice(),
@@ -67,9 +55,21 @@ pub fn field(field: u8) -> &'static [u8]
     }
 }
 
+/// The first word of a query of this kind.
+pub fn verb_word(kind: Kind) -> &'static [u8]
+    ensures { result.now ≡ verb_word kind }
+{
+    match kind {
+        Kind::Select => b"select".as_slice(),
+        Kind::Sum(_) => b"sum".as_slice(),
+        Kind::Count => b"count".as_slice(),
+        Kind::Join => b"join".as_slice(),
+    }
+}
+
 /// The word before the first condition of the left side.
-pub fn opening(kind: Kind) -> &'static [u8]
-    ensures { result.now ≡ opening_as kind }
+pub fn opening_word(kind: Kind) -> &'static [u8]
+    ensures { result.now ≡ opening_word kind }
 {
     match kind {
         Kind::Join => b"left".as_slice(),

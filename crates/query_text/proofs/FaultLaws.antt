@@ -2,8 +2,8 @@
 use Rattle.std.proofs.Common.{◌≡◌, ℕ, zero, suc, pos, ◌≤◌, Option, Some, None, Err, List, [], ◌∷◌, ◌++◌, codes, refl, sym, ap, ◌∙◌, subst, arith, append_assoc, append-nil, length, take, drop, ◌+◌, take-append-drop, length-append}
 use Rattle.std.specs.Option.{ok_or}
 use Rattle.std.specs.Fmt.{digits}
-use Rattle.as_base.specs.declared.item.StreamId.{StreamId}
-use Rattle.as_base.specs.declared.item.StreamId.TheVariants.{A}
+use Rattle.as_base.specs.declared.stream.StreamId.{StreamId}
+use Rattle.as_base.specs.declared.stream.StreamId.TheVariants.{A}
 use Rattle.as_base.specs.declared.query.Col.TheVariants.{V1}
 use Rattle.as_base.specs.declared.query.Group.{Group}
 use Rattle.query_text.specs.declared.ast.Op.{Op}
@@ -13,11 +13,12 @@ use Rattle.query_text.specs.declared.tree.Window.{Window}
 use Rattle.query_text.specs.declared.tree.Stem.{Stem}
 use Rattle.query_text.specs.declared.tree.Head.{Head}
 use Rattle.query_text.specs.declared.tree.Side.{Side}
-use Rattle.query_text.specs.Spelling.{Word, Query, query_words, Spells, Begins, IsSyntax}
+use Rattle.query_text.specs.Names.{Word}
+use Rattle.query_text.specs.Spelling.{WrittenQuery, query_words, Spells, Begins, IsSyntax}
 use Rattle.query_text.proofs.PlaceLaws.{said, Good, led}
 use Rattle.std.proofs.lemmas.List.{take-append-le}
 use Rattle.query_text.proofs.GrammarLaws.{go_on, stop_at, step_case, spelled-read}
-use Rattle.query_text.specs.Places.{with_cond, bare, Place, after_value, step, finish, read_from}
+use Rattle.query_text.specs.Places.{with_cond, bare, Place, after_value, step, whole_at, read_from}
 use Rattle.query_text.specs.Places.Place.{AtVerb, AtSelected, AtSelectStream, AtSumColumn, AtBy, AtGroup, AtFrom, AtStream, AtJoinLeft, AtJoinRight, AtShape, AtTumble, AtSize, AtSlide, AtLead, AtField, AtOp, AtValue}
 
 -- some text goes on from the next place, so from this one too
@@ -27,10 +28,10 @@ back p next w good e h =
     let b : Begins (said next) = h l.0 in
     (b.0, w ∷ b.1, (b.2.0, sym (append_assoc (said p) (w ∷ []) b.1) ∙ ap (λ xs. xs ++ b.1) (sym l.1) ∙ b.2.1))
 
-at_lead : (q : Query) → Good (AtLead q) → Begins (said (AtLead q))
+at_lead : (q : WrittenQuery) → Good (AtLead q) → Begins (said (AtLead q))
 at_lead q good = (q, [], (good, append-nil (query_words q)))
 
-zero_value : (q : Query) (side : Side) (f : ℕ) (op : Op) → step (AtValue q side f op) (codes "0") ≡ Some (after_value q side f op (pos 0))
+zero_value : (q : WrittenQuery) (side : Side) (f : ℕ) (op : Op) → step (AtValue q side f op) (codes "0") ≡ Some (after_value q side f op (pos 0))
 unfolding digits
 zero_value q side f op = refl
 
@@ -46,13 +47,13 @@ zero_slide : (stem : Stem) (n : ℕ) → step (AtSlide stem n) (codes "0") ≡ S
 unfolding digits
 zero_slide stem n = refl
 
-at_value : (q : Query) (side : Side) (f : ℕ) (op : Op) → Good (AtValue q side f op) → Begins (said (AtValue q side f op))
+at_value : (q : WrittenQuery) (side : Side) (f : ℕ) (op : Op) → Good (AtValue q side f op) → Begins (said (AtValue q side f op))
 at_value q side f op good = back (AtValue q side f op) (after_value q side f op (pos 0)) (codes "0") good (zero_value q side f op) (at_lead (with_cond q side (record { field = f; op = op; value = pos 0 })))
 
-at_op : (q : Query) (side : Side) (f : ℕ) → Good (AtOp q side f) → Begins (said (AtOp q side f))
+at_op : (q : WrittenQuery) (side : Side) (f : ℕ) → Good (AtOp q side f) → Begins (said (AtOp q side f))
 at_op q side f good = back (AtOp q side f) (AtValue q side f Lt) (codes "<") good refl (at_value q side f Lt)
 
-at_field : (q : Query) (side : Side) → Good (AtField q side) → Begins (said (AtField q side))
+at_field : (q : WrittenQuery) (side : Side) → Good (AtField q side) → Begins (said (AtField q side))
 at_field q side good = back (AtField q side) (AtOp q side 0) (codes "key") good refl (at_op q side 0)
 
 at_slide : (stem : Stem) (n : ℕ) → Good (AtSlide stem n) → Begins (said (AtSlide stem n))
@@ -111,7 +112,7 @@ completes (AtValue q side f op) good = at_value q side f op good
 
 -- no query is whole at the place where the words end, or the next word leads nowhere
 abbrev Stuck : Place → List Word → Type 0
-Stuck next [] = finish next ≡ None
+Stuck next [] = whole_at next ≡ None
 Stuck next (w ∷ left) = step next w ≡ None
 
 -- the words before the fault, and the place that they led to
@@ -124,13 +125,13 @@ Stopped p ws left =
     × ((more : List Word) → read_from p (front ++ more) ≡ read_from next more)
     × Stuck next left
 
-not_whole : (o : Option Query) (left : List Word) → ok_or o [] ≡ Err left → (o ≡ None) × ([] ≡ left)
+not_whole : (o : Option WrittenQuery) (left : List Word) → ok_or o [] ≡ Err left → (o ≡ None) × ([] ≡ left)
 not_whole None left e = (refl, cc e)
 not_whole (Some q) left e = cc e
 
 stopped : (p : Place) (ws left : List Word) → Good p → read_from p ws ≡ Err left → Stopped p ws left
 stopped p [] left good e =
-    let s = not_whole (finish p) left e in
+    let s = not_whole (whole_at p) left e in
     ([], p, s.1, good, sym (append-nil (said p)), (λ more. refl), subst (Stuck p) s.1 s.0)
 stopped p (w ∷ ws) left good e =
     step_case {P = Stopped p (w ∷ ws) left} (step p w) w ws (Err left) e

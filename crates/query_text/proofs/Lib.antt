@@ -1,5 +1,5 @@
 mod Worked
-mod TextLaws
+pub mod TextLaws
 pub mod PlaceLaws
 pub mod GrammarLaws
 pub mod FaultLaws

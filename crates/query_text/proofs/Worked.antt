@@ -1,7 +1,7 @@
 -- Texts that were worked out by hand.
 use Rattle.std.proofs.Common.{◌≡◌, pos, negsuc, [], ◌∷◌, codes, refl, Ok, Err}
 use Rattle.std.specs.Fmt.{digits}
-use Rattle.as_base.specs.declared.item.StreamId.TheVariants.{A, B}
+use Rattle.as_base.specs.declared.stream.StreamId.TheVariants.{A, B}
 use Rattle.as_base.specs.declared.query.Col.TheVariants.{V1}
 use Rattle.as_base.specs.declared.query.Group.{Group}
 use Rattle.query_text.specs.declared.ast.Op.TheVariants.{Lt, Ge}
@@ -10,18 +10,18 @@ use Rattle.query_text.specs.declared.tree.Window.{Window}
 use Rattle.query_text.specs.declared.tree.Stem.{Stem}
 use Rattle.query_text.specs.declared.tree.Head.{Head}
 use Rattle.as_words.specs.Parts.{parts_of}
-use Rattle.query_text.specs.Spelling.{Query, query_words}
+use Rattle.query_text.specs.Spelling.{WrittenQuery, query_words}
 use Rattle.query_text.specs.Places.{read_from}
 use Rattle.query_text.specs.Places.Place.{AtVerb}
 
-a_sum : Query
+a_sum : WrittenQuery
 a_sum = record {
   head = Head.Windowed (Stem.Grouped (Measure.Sum V1) Group.Key A) (Window.Slide 20 10);
   left = record { field = 2; op = Lt; value = negsuc 4 } ∷ record { field = 0; op = Ge; value = pos 0 } ∷ [];
   right = [];
 }
 
-a_join : Query
+a_join : WrittenQuery
 a_join = record {
   head = Head.Windowed (Stem.Joined A B) (Window.Tumble 7);
   left = [];

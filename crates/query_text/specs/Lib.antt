@@ -1,3 +1,9 @@
+pub mod Names
 pub mod Spelling
 pub mod Places
 pub mod Reading
+pub mod Parsing
+pub use Rattle.as_words.specs.Number
+pub use Rattle.as_words.specs.Parts
+pub use Rattle.as_base.specs.Stream
+pub use Rattle.as_base.specs.Text

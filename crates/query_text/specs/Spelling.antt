@@ -1,14 +1,11 @@
 -- The texts of queries: a tree for each, and the words that spell it.
-use Rattle.std.specs.Prelude.{ℕ, ◌≡◌, ◌<◌, ◌≤◌, ◌+◌, ◌^◌, ℤ, pos, negsuc, int_lt, IsTrue, Bool, true, false, Some, None, List, [], ◌∷◌, ◌++◌, length, take, get_or, codes, decimal, flat_map}
+use Rattle.std.specs.Prelude.{ℕ, ◌≡◌, ◌<◌, ◌≤◌, ◌+◌, ◌^◌, Bool, true, false, Some, None, List, [], ◌∷◌, ◌++◌, length, take, codes, decimal, flat_map}
 use Rattle.std.specs.Fmt.{signed_decimal}
-use Rattle.as_base.specs.declared.item.StreamId.{StreamId}
-use Rattle.as_base.specs.declared.item.StreamId.TheVariants.{A, B, C, D}
-use Rattle.as_base.specs.declared.query.Col.{Col}
-use Rattle.as_base.specs.declared.query.Col.TheVariants.{V1, V2, V3, V4}
+use Rattle.std.specs.List.{AllByRecursion}
+use Rattle.as_words.specs.Number.{IsSigned}
+use Rattle.as_base.specs.Stream.{stream_name}
 use Rattle.as_base.specs.declared.query.Group.{Group}
 use Rattle.as_base.specs.declared.query.Kind.{Kind}
-use Rattle.query_text.specs.declared.ast.Op.{Op}
-use Rattle.query_text.specs.declared.ast.Op.TheVariants.{Lt, Le, Eq, Ge, Gt}
 use Rattle.query_text.specs.declared.ast.Cond.{Cond}
 use Rattle.query_text.specs.declared.ast.Ast.{Ast}
 use Rattle.query_text.specs.declared.ast.TextFault.{TextFault}
@@ -16,60 +13,35 @@ use Rattle.query_text.specs.declared.tree.Measure.{Measure}
 use Rattle.query_text.specs.declared.tree.Window.{Window}
 use Rattle.query_text.specs.declared.tree.Stem.{Stem}
 use Rattle.query_text.specs.declared.tree.Head.{Head}
+use Rattle.query_text.specs.Names.{Word, column_name, group_name, op_name, field_name}
 
-abbrev pub Word : Type 0
-Word = List ℕ
-
--- a query as it is written
-pub record Query : Type 0 where
+-- a query as it is written: up to its conditions, and the conditions of each side
+pub record WrittenQuery : Type 0 where
   pub head : Head
   pub left : List Cond
   pub right : List Cond
 
-abbrev pub stream_word : StreamId → Word
-stream_word A = codes "a"
-stream_word B = codes "b"
-stream_word C = codes "c"
-stream_word D = codes "d"
-
-abbrev pub column_word : Col → Word
-column_word V1 = codes "v1"
-column_word V2 = codes "v2"
-column_word V3 = codes "v3"
-column_word V4 = codes "v4"
-
-abbrev pub group_word : Group → Word
-group_word Group.Key = codes "key"
-group_word (Group.Col c) = column_word c
-group_word Group.All = codes "all"
-
-abbrev pub op_word : Op → Word
-op_word Lt = codes "<"
-op_word Le = codes "<="
-op_word Eq = codes "="
-op_word Ge = codes ">="
-op_word Gt = codes ">"
-
--- field 0 is the key, 1 to 4 are the values
-abbrev pub field_word : ℕ → Word
-field_word field = get_or (codes "key" ∷ codes "v1" ∷ codes "v2" ∷ codes "v3" ∷ codes "v4" ∷ []) field []
-
+-- the words of what is told of each group
 abbrev pub measure_words : Measure → List Word
-measure_words (Measure.Sum c) = codes "sum" ∷ column_word c ∷ []
+measure_words (Measure.Sum c) = codes "sum" ∷ column_name c ∷ []
 measure_words Measure.Count = codes "count" ∷ []
 
+-- the words up to the windows
 abbrev pub stem_words : Stem → List Word
-stem_words (Stem.Grouped m g s) = measure_words m ++ codes "by" ∷ group_word g ∷ codes "from" ∷ stream_word s ∷ []
-stem_words (Stem.Joined s t) = codes "join" ∷ stream_word s ∷ stream_word t ∷ []
+stem_words (Stem.Grouped m g s) = measure_words m ++ codes "by" ∷ group_name g ∷ codes "from" ∷ stream_name s ∷ []
+stem_words (Stem.Joined s t) = codes "join" ∷ stream_name s ∷ stream_name t ∷ []
 
+-- the words of windows
 abbrev pub window_words : Window → List Word
 window_words (Window.Tumble n) = codes "tumble" ∷ decimal n ∷ []
 window_words (Window.Slide n m) = codes "slide" ∷ decimal n ∷ decimal m ∷ []
 
+-- the words up to the conditions
 abbrev pub head_words : Head → List Word
-head_words (Head.Select s) = codes "select" ∷ codes "from" ∷ stream_word s ∷ []
+head_words (Head.Select s) = codes "select" ∷ codes "from" ∷ stream_name s ∷ []
 head_words (Head.Windowed stem w) = stem_words stem ++ window_words w
 
+-- the query joins two streams
 abbrev pub is_join : Head → Bool
 is_join (Head.Windowed (Stem.Joined s t) w) = true
 is_join _ = false
@@ -79,35 +51,36 @@ abbrev pub opening : Head → Word
 opening (Head.Windowed (Stem.Joined s t) w) = codes "left"
 opening _ = codes "where"
 
+-- the words of a condition
 abbrev pub cond_words : Cond → List Word
-cond_words c = field_word c.field ∷ op_word c.op ∷ signed_decimal c.value ∷ []
+cond_words c = field_name c.field ∷ op_name c.op ∷ signed_decimal c.value ∷ []
 
 -- the conditions, with this word before the first
 abbrev pub conds_words : Word → List Cond → List Word
 conds_words first [] = []
 conds_words first (c ∷ cs) = first ∷ cond_words c ++ flat_map (λ d. codes "and" ∷ cond_words d) cs
 
-abbrev pub query_words : Query → List Word
+-- the words of a query
+abbrev pub query_words : WrittenQuery → List Word
 query_words q = head_words q.head ++ conds_words (opening q.head) q.left ++ conds_words (codes "right") q.right
 
--- the number is from -2^63 to 2^63 - 1
-abbrev pub FitsSigned64 : ℤ → Type 0
-FitsSigned64 z = IsTrue (int_lt (negsuc (2 ^ 63)) z) × IsTrue (int_lt z (pos (2 ^ 63)))
-
+-- the numbers of windows are below 2^63
 abbrev pub FitsWindow : Window → Type 0
 FitsWindow (Window.Tumble n) = n < 2 ^ 63
 FitsWindow (Window.Slide n m) = (n < 2 ^ 63) × (m < 2 ^ 63)
 
+-- the numbers up to the conditions are in the ranges that a text may write
 abbrev pub FitsHead : Head → Type 0
 FitsHead (Head.Select s) = Unit {0}
 FitsHead (Head.Windowed stem w) = FitsWindow w
 
+-- the field is one of the five, and its number is from -2^63 to 2^63 - 1
 abbrev pub FitsCond : Cond → Type 0
-FitsCond c = (c.field ≤ 4) × FitsSigned64 c.value
+FitsCond c = (c.field ≤ 4) × IsSigned c.value
 
+-- each condition is one that a text may write
 abbrev pub FitsConds : List Cond → Type 0
-FitsConds [] = Unit {0}
-FitsConds (c ∷ cs) = FitsCond c × FitsConds cs
+FitsConds cs = AllByRecursion FitsCond cs
 
 -- only a join has a right side
 abbrev pub FitsRight : Head → List Cond → Type 0
@@ -115,23 +88,23 @@ FitsRight (Head.Windowed (Stem.Joined s t) w) cs = FitsConds cs
 FitsRight _ cs = cs ≡ []
 
 -- the numbers are in the ranges that a text may write, and only a join has a right side
-abbrev pub FitsText : Query → Type 0
+abbrev pub FitsText : WrittenQuery → Type 0
 FitsText q = FitsHead q.head × FitsConds q.left × FitsRight q.head q.right
 
 -- the words spell the query
-abbrev pub Spells : Query → List Word → Type 0
+abbrev pub Spells : WrittenQuery → List Word → Type 0
 Spells q ws = FitsText q × (ws ≡ query_words q)
 
 -- some query text begins with the words
 abbrev pub Begins : List Word → Type 0
-Begins ws = (q : Query) × (more : List Word) × Spells q (ws ++ more)
+Begins ws = (q : WrittenQuery) × (more : List Word) × Spells q (ws ++ more)
 
 -- k is the place of the first word such that no query text begins with the words up to and including it; one more than
 -- the number of words where all of them begin some text, but are none
 pub record IsSyntax (k : ℕ) (ws : List Word) : Type 0 where
   pub place : (1 ≤ k) × (k ≤ length ws + 1)
   pub before : (n : ℕ) → n < k → Begins (take n ws)
-  pub none : (q : Query) → Spells q ws → ⊥
+  pub none : (q : WrittenQuery) → Spells q ws → ⊥
   pub bad : k ≤ length ws → Begins (take k ws) → ⊥
 
 -- the size and the slide of windows
@@ -144,7 +117,7 @@ abbrev pub kind_of : Measure → Kind
 kind_of (Measure.Sum c) = Kind.Sum c
 kind_of Measure.Count = Kind.Count
 
--- the tree that is read, without how its windows are written
+-- the tree of these parts, which does not say how the windows were written
 abbrev pub tree : Head → List Cond → List Cond → Ast
 tree (Head.Select s) left right = record {
   kind = Kind.Select;
@@ -174,12 +147,13 @@ tree (Head.Windowed (Stem.Joined s t) w) left right = record {
   right_conds = right;
 }
 
-abbrev pub tree_of : Query → Ast
+-- the tree of a query
+abbrev pub tree_of : WrittenQuery → Ast
 tree_of q = tree q.head q.left q.right
 
 -- the tree is the one that the words spell
 abbrev pub IsTreeOf : Ast → List Word → Type 0
-IsTreeOf ast ws = (q : Query) × Spells q ws × (ast ≡ tree_of q)
+IsTreeOf ast ws = (q : WrittenQuery) × Spells q ws × (ast ≡ tree_of q)
 
 -- the fault tells the place; want of memory tells nothing
 abbrev pub IsFault : List Word → TextFault → Type 0

@@ -1,7 +1,4 @@
-ghost use Rattle.std.specs.Prelude.{◌≡◌};
-
-use as_base::{Group, Kind, StreamId};
-use std::marker::Model;
+use as_base::{Group, Kind, Listed, StreamId};
 
 /// How a field is compared with a number.
 #[derive(Clone, Copy, Debug, PartialEq, Eq)]
@@ -27,43 +24,7 @@ pub struct Cond {
 }
 
 /// Conditions, all of which are to hold.
-#[derive(Debug, Drop)]
-pub struct Conds {
-    items: Vec<Cond>,
-}
-
-impl Model for Conds {
-    ghost use Rattle.std.specs.Prelude.{List};
-    ghost use Rattle.query_text.specs.declared.ast.Cond.{Cond};
-
-    ghost Value = { List Cond };
-
-    ghost view = { λ c. c.items.items };
-}
-
-impl Conds {
-    /// Takes the conditions as they are, without memory.
-    pub fn from_vec(v: Vec<Cond>) -> Conds
-        ensures { result ≡ v.items }
-    {
-        Conds { items: v }
-    }
-
-    /// The conditions.
-    pub fn as_slice(&self) -> &[Cond]
-        ensures { result.now ≡ self.now }
-    {
-        self.items.as_slice()
-    }
-
-    /// Gives the conditions back, without memory.
-    pub fn into_vec(self) -> Vec<Cond>
-        ensures { result.items ≡ self }
-    {
-        let Conds { items } = self;
-        items
-    }
-}
+pub type Conds = Listed<Cond>;
 
 /// A query as its text says it.
 #[derive(Debug, Drop)]

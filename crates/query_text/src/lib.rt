@@ -11,6 +11,7 @@ mod words;
 
 pub use ast::{Ast, Cond, Conds, Op, TextFault};
 pub use reader::{faults_have_one_place, read, texts_have_one_tree};
+pub use tree::Window;
 
 #[cfg(test)]
 mod tests;

@@ -1,8 +1,8 @@
 ghost use Rattle.std.specs.Prelude.{◌≡◌, ◌++◌, ◌∷◌, [], ◌<◌, length, ⊤, IfOk};
-ghost use Rattle.query_text.specs.Places.{has, Place, read_from};
+ghost use Rattle.query_text.specs.Places.{has_any, Place, read_from};
 ghost use Rattle.query_text.specs.Places.Place.{AtVerb, AtLead};
-ghost use Rattle.query_text.specs.Spelling.{tree, size_and_slide as spec_size_and_slide, kind_of as spec_kind_of};
-ghost use Rattle.query_text.specs.Reading.{Reads, sided, made, left_with, right_with, Ends, Goes, Comes};
+ghost use Rattle.query_text.specs.Spelling.{tree, size_and_slide, kind_of};
+ghost use Rattle.query_text.specs.Parsing.{Parses, take_sided, query_with, left_with, right_with, ParsesRest, ParsesNext, ParsesText};
 
 use crate::ast::{Ast, Cond, Conds};
 use crate::cursor::take_side;
@@ -16,7 +16,7 @@ use std::alloc::Global;
 #[derive(Clone, Copy, Debug, PartialEq, Eq)]
 pub enum Stop {
     /// No text goes on with the words that are left.
-    Misfit,
+    Syntax,
     /// There was no memory for a condition.
     NoMemory,
 }
@@ -31,22 +31,22 @@ impl From<NoMemory> for Stop {
     }
 }
 
-/// The next condition and its side, where there are left conditions, and right ones, or not.
+// The next condition and its side, where there are left conditions, and right ones, or not.
 fn take_sided(
     cursor: &mut Words<'_>,
     head: Head,
     has_left: bool,
     has_right: bool,
 ) -> Option<(Side, Cond)>
-    ensures { Reads result cursor.new (sided head has_left has_right cursor.old) }
+    ensures { Parses result cursor.new (take_sided head has_left has_right cursor.old) }
 {
     let side = take_side(cursor, head, has_left, has_right)?;
     let cond = take_condition(cursor)?;
     Some((side, cond))
 }
 
-/// The tree of these parts.
-fn whole(head: Head, left_conds: Conds, right_conds: Conds) -> Ast
+// The tree of these parts.
+fn tree(head: Head, left_conds: Conds, right_conds: Conds) -> Ast
     ensures { result ≡ tree head left_conds right_conds }
 {
     let (kind, group, left, right, win) = match head {
@@ -81,9 +81,9 @@ fn whole(head: Head, left_conds: Conds, right_conds: Conds) -> Ast
     }
 }
 
-/// The kind of a query with this measure.
+// The kind of a query with this measure.
 fn kind_of(measure: Measure) -> Kind
-    ensures { result ≡ spec_kind_of measure }
+    ensures { result ≡ kind_of measure }
 {
     match measure {
         Measure::Sum(column) => Kind::Sum(column),
@@ -91,9 +91,9 @@ fn kind_of(measure: Measure) -> Kind
     }
 }
 
-/// The size and the slide of windows.
+// The size and the slide of windows.
 fn size_and_slide(window: Window) -> (u64, u64)
-    ensures { result ≡ spec_size_and_slide window }
+    ensures { result ≡ size_and_slide window }
 {
     match window {
         Window::Tumble(size) => (size, size),
@@ -101,7 +101,7 @@ fn size_and_slide(window: Window) -> (u64, u64)
     }
 }
 
-/// Puts a condition on its side. After want of memory both sides are as they were.
+// Puts a condition on its side. After want of memory both sides are as they were.
 fn put(side: Side, cond: Cond, left: &mut Vec<Cond>, right: &mut Vec<Cond>) -> Result<(), NoMemory>
     ensures left { IfOk result (λ _. left.new.items ≡ left_with left.old.items side cond) }
     ensures right { IfOk result (λ _. right.new.items ≡ right_with right.old.items side cond) }
@@ -113,43 +113,43 @@ fn put(side: Side, cond: Cond, left: &mut Vec<Cond>, right: &mut Vec<Cond>) -> R
     Ok(())
 }
 
-/// There is a condition.
+// There is a condition.
 fn has_any(conds: &[Cond]) -> bool
-    ensures { result ≡ has conds.now }
+    ensures { result ≡ has_any conds.now }
 {
     !conds.is_empty()
 }
 
-/// Reads one more condition onto its side, where a word is left.
+// Reads one more condition onto its side, where a word is left.
 fn take_next(
     cursor: &mut Words<'_>,
     head: Head,
     left: &mut Vec<Cond>,
     right: &mut Vec<Cond>,
 ) -> Result<(), Stop>
-    ensures goes { (cursor.old ≡ [] → ⊥) → Goes result
-        (made head left.new.items right.new.items) cursor.new
-        (read_from (AtLead (made head left.old.items right.old.items)) cursor.old) }
+    ensures goes { (cursor.old ≡ [] → ⊥) → ParsesNext result
+        (query_with head left.new.items right.new.items) cursor.new
+        (read_from (AtLead (query_with head left.old.items right.old.items)) cursor.old) }
     ensures shorter { IfOk result (λ _. length cursor.new < length cursor.old) }
 {
     let has_left = has_any(left.as_slice());
     let has_right = has_any(right.as_slice());
     let Some((side, cond)) = take_sided(cursor, head, has_left, has_right) else {
-        return Err(Stop::Misfit);
+        return Err(Stop::Syntax);
     };
     put(side, cond, left, right)?;
     Ok(())
 }
 
-/// Reads the conditions up to the end of the text.
+// Reads the conditions up to the end of the text.
 fn take_conditions(
     cursor: &mut Words<'_>,
     head: Head,
     left: &mut Vec<Cond>,
     right: &mut Vec<Cond>,
 ) -> Result<(), Stop>
-    ensures { Ends result (made head left.new.items right.new.items) cursor.new
-        (read_from (AtLead (made head left.old.items right.old.items)) cursor.old) }
+    ensures { ParsesRest result (query_with head left.new.items right.new.items) cursor.new
+        (read_from (AtLead (query_with head left.old.items right.old.items)) cursor.old) }
 {
     while !cursor.is_empty() {
         take_next(cursor, head, left, right)?;
@@ -157,16 +157,16 @@ fn take_conditions(
     Ok(())
 }
 
-/// Reads a whole text. After a misfit the words from the fault on are left.
-#[tactic(auto, using(crate::proofs::ReadingLaws::head_on, crate::proofs::ReadingLaws::head_wrong))]
+/// Reads a whole text. After a fault the words from the fault on are left.
+#[tactic(auto, using(crate::proofs::ReadingLaws::head_on))]
 pub fn parse(alloc: Global, cursor: &mut Words<'_>) -> Result<Ast, Stop>
-    ensures { Comes result cursor.new (read_from AtVerb cursor.old) }
+    ensures { ParsesText result cursor.new (read_from AtVerb cursor.old) }
 {
     let Some(head) = take_head(cursor) else {
-        return Err(Stop::Misfit);
+        return Err(Stop::Syntax);
     };
     let mut left = Vec::new(alloc);
     let mut right = Vec::new(alloc);
     take_conditions(cursor, head, &mut left, &mut right)?;
-    Ok(whole(head, Conds::from_vec(left), Conds::from_vec(right)))
+    Ok(tree(head, Conds::from_vec(left), Conds::from_vec(right)))
 }

@@ -3,13 +3,13 @@ ghost use Rattle.query_text.specs.Spelling.{IsTreeOf, IsFault, IsSyntax};
 ghost use Rattle.query_text.specs.Reading.{text_words, read_text, IsPlace};
 
 use crate::ast::{Ast, TextFault};
-use crate::cursor::words_of;
+use crate::cursor::text_words;
 use crate::parse::{Stop, parse};
 use as_base::Text;
 use std::alloc::Global;
 
-/// The place, from 1, of the word after which so many of all words are left, with it.
-fn place_of(total: usize, left: usize) -> u32
+// The place, from 1, of the word after which so many of all words are left, with it.
+fn fault_place(total: usize, left: usize) -> u32
     requires within { left ≤ total }
     requires small { total ≤ 4090 }
     ensures { result + left ≡ total + 1 }
@@ -27,14 +27,14 @@ pub fn read(alloc: Global, text: &Text) -> Result<Ast, TextFault>
     ensures value { IfOk result (λ ast. read_text text.now ≡ Ok ast) }
     ensures place { IfErr result (IsPlace (read_text text.now)) }
 {
-    let mut cursor = words_of(text.as_slice());
+    let mut cursor = text_words(text.as_slice());
     let total = cursor.count();
     match parse(alloc, &mut cursor) {
         Ok(ast) => Ok(ast),
         Err(Stop::NoMemory) => Err(TextFault::NoMemory),
-        Err(Stop::Misfit) => {
+        Err(Stop::Syntax) => {
             let left = cursor.count();
-            Err(TextFault::Syntax(place_of(total, left)))
+            Err(TextFault::Syntax(fault_place(total, left)))
         }
     }
 }

@@ -1,16 +1,16 @@
-ghost use Rattle.query_text.specs.Reading.{grouped, windowed_after, windowed, selected, summed, counted, joined, head_after, head, condition, Reads};
+ghost use Rattle.query_text.specs.Parsing.{take_grouped, take_windows, take_windowed, take_selected, take_summed, take_counted, take_joined, take_head_after, take_head, take_condition, Parses};
 
 use crate::ast::Cond;
 use crate::cursor::{
-    take_column, take_field, take_group, take_integer, take_only, take_op, take_shape, take_size,
-    take_stream, take_verb,
+    take_column, take_field, take_group, take_integer, take_only, take_op, take_shape, take_stream,
+    take_ticks, take_verb,
 };
 use crate::tree::{Head, Measure, Shape, Stem, Verb, Window};
 use as_words::Words;
 
-/// `by GROUP from S`, after the measure.
+// `by GROUP from S`, after the measure.
 fn take_grouped(cursor: &mut Words<'_>, measure: Measure) -> Option<Stem>
-    ensures { Reads result cursor.new (grouped measure cursor.old) }
+    ensures { Parses result cursor.new (take_grouped measure cursor.old) }
 {
     take_only(cursor, b"by".as_slice())?;
     let group = take_group(cursor)?;
@@ -19,66 +19,66 @@ fn take_grouped(cursor: &mut Words<'_>, measure: Measure) -> Option<Stem>
     Some(Stem::Grouped(measure, group, stream))
 }
 
-/// The numbers of windows of this shape.
+// The numbers of windows of this shape.
 fn take_windows(cursor: &mut Words<'_>, stem: Stem, shape: Shape) -> Option<Head>
-    ensures { Reads result cursor.new (windowed_after stem shape cursor.old) }
+    ensures { Parses result cursor.new (take_windows stem shape cursor.old) }
 {
-    let size = take_size(cursor)?;
+    let size = take_ticks(cursor)?;
     match shape {
         Shape::Tumble => Some(Head::Windowed(stem, Window::Tumble(size))),
         Shape::Slide => {
-            let slide = take_size(cursor)?;
+            let slide = take_ticks(cursor)?;
             Some(Head::Windowed(stem, Window::Slide(size, slide)))
         }
     }
 }
 
-/// `tumble NAT` or `slide NAT NAT`.
+// `tumble NAT` or `slide NAT NAT`.
 fn take_windowed(cursor: &mut Words<'_>, stem: Stem) -> Option<Head>
-    ensures { Reads result cursor.new (windowed stem cursor.old) }
+    ensures { Parses result cursor.new (take_windowed stem cursor.old) }
 {
     let shape = take_shape(cursor)?;
     take_windows(cursor, stem, shape)
 }
 
-/// `from S`, after `select`.
+// `from S`, after `select`.
 fn take_selected(cursor: &mut Words<'_>) -> Option<Head>
-    ensures { Reads result cursor.new (selected cursor.old) }
+    ensures { Parses result cursor.new (take_selected cursor.old) }
 {
     take_only(cursor, b"from".as_slice())?;
     let stream = take_stream(cursor)?;
     Some(Head::Select(stream))
 }
 
-/// `COL by GROUP from S window`, after `sum`.
+// `COL by GROUP from S window`, after `sum`.
 fn take_summed(cursor: &mut Words<'_>) -> Option<Head>
-    ensures { Reads result cursor.new (summed cursor.old) }
+    ensures { Parses result cursor.new (take_summed cursor.old) }
 {
     let column = take_column(cursor)?;
     let stem = take_grouped(cursor, Measure::Sum(column))?;
     take_windowed(cursor, stem)
 }
 
-/// `by GROUP from S window`, after `count`.
+// `by GROUP from S window`, after `count`.
 fn take_counted(cursor: &mut Words<'_>) -> Option<Head>
-    ensures { Reads result cursor.new (counted cursor.old) }
+    ensures { Parses result cursor.new (take_counted cursor.old) }
 {
     let stem = take_grouped(cursor, Measure::Count)?;
     take_windowed(cursor, stem)
 }
 
-/// `S S window`, after `join`.
+// `S S window`, after `join`.
 fn take_joined(cursor: &mut Words<'_>) -> Option<Head>
-    ensures { Reads result cursor.new (joined cursor.old) }
+    ensures { Parses result cursor.new (take_joined cursor.old) }
 {
     let left = take_stream(cursor)?;
     let right = take_stream(cursor)?;
     take_windowed(cursor, Stem::Joined(left, right))
 }
 
-/// What comes after the verb, up to the conditions.
+// What comes after the verb, up to the conditions.
 fn take_head_after(cursor: &mut Words<'_>, verb: Verb) -> Option<Head>
-    ensures { Reads result cursor.new (head_after verb cursor.old) }
+    ensures { Parses result cursor.new (take_head_after verb cursor.old) }
 {
     match verb {
         Verb::Select => take_selected(cursor),
@@ -90,7 +90,7 @@ fn take_head_after(cursor: &mut Words<'_>, verb: Verb) -> Option<Head>
 
 /// A query up to its conditions.
 pub fn take_head(cursor: &mut Words<'_>) -> Option<Head>
-    ensures { Reads result cursor.new (head cursor.old) }
+    ensures { Parses result cursor.new (take_head cursor.old) }
 {
     let verb = take_verb(cursor)?;
     take_head_after(cursor, verb)
@@ -98,7 +98,7 @@ pub fn take_head(cursor: &mut Words<'_>) -> Option<Head>
 
 /// `FIELD OP INT`.
 pub fn take_condition(cursor: &mut Words<'_>) -> Option<Cond>
-    ensures { Reads result cursor.new (condition cursor.old) }
+    ensures { Parses result cursor.new (take_condition cursor.old) }
 {
     let field = take_field(cursor)?;
     let op = take_op(cursor)?;

@@ -5,8 +5,8 @@ use std::alloc::Global;
 use std::process::Abort;
 use std::test::Fail;
 
-/// Texts, each after the place where it is outside the grammar, or after 0 where it is a query: every front of six whole
-/// texts; a wrong word at each place of a selection, a sum, a count and a join; and queries whatever a plan makes of them.
+/// Texts, each after the place where it is outside the grammar, or after 0 where it is a query: fronts of whole texts, a
+/// wrong word at each kind of place, and queries whatever a plan makes of them.
 const TEXTS: &[u8] = b"1:
 2:select
 3:select from
@@ -16,8 +16,6 @@ const TEXTS: &[u8] = b"1:
 7:select from a where key <
 0:select from a where key < 5
 9:select from a where key < 5 and
-10:select from a where key < 5 and v1
-11:select from a where key < 5 and v1 >=
 0:select from a where key < 5 and v1 >= -3
 2:sum
 3:sum v1
@@ -28,131 +26,61 @@ const TEXTS: &[u8] = b"1:
 8:sum v1 by key from b slide
 9:sum v1 by key from b slide 20
 0:sum v1 by key from b slide 20 10
-2:count
 3:count by
-4:count by v3
-5:count by v3 from
-6:count by v3 from c
-7:count by v3 from c tumble
-0:count by v3 from c tumble 10
-9:count by v3 from c tumble 10 where
-10:count by v3 from c tumble 10 where v2
-11:count by v3 from c tumble 10 where v2 =
 0:count by v3 from c tumble 10 where v2 = 0
 2:join
 3:join a
 4:join a b
-5:join a b slide
 6:join a b slide 4
 0:join a b slide 4 2
 8:join a b slide 4 2 left
-9:join a b slide 4 2 left v1
-10:join a b slide 4 2 left v1 =
 0:join a b slide 4 2 left v1 = 1
 12:join a b slide 4 2 left v1 = 1 right
-13:join a b slide 4 2 left v1 = 1 right v4
-14:join a b slide 4 2 left v1 = 1 right v4 <=
 0:join a b slide 4 2 left v1 = 1 right v4 <= 2
-3:sum v4
-4:sum v4 by
-5:sum v4 by all
-6:sum v4 by all from
-7:sum v4 by all from d
-8:sum v4 by all from d tumble
-0:sum v4 by all from d tumble 1
-10:sum v4 by all from d tumble 1 where
-11:sum v4 by all from d tumble 1 where key
-12:sum v4 by all from d tumble 1 where key >
 0:sum v4 by all from d tumble 1 where key > 9223372036854775807
-3:join c
-4:join c d
-5:join c d tumble
-0:join c d tumble 7
-7:join c d tumble 7 right
-8:join c d tumble 7 right key
-9:join c d tumble 7 right key =
-0:join c d tumble 7 right key = -9223372036854775808
-11:join c d tumble 7 right key = -9223372036854775808 and
-12:join c d tumble 7 right key = -9223372036854775808 and v2
-13:join c d tumble 7 right key = -9223372036854775808 and v2 <
 0:join c d tumble 7 right key = -9223372036854775808 and v2 < 0
 1:sel
 1:Select from a
-1:from a
 2:select form a
-2:select a
 3:select from e
 4:select from a b
-4:select from a were v1 = 1
 4:select from a left v1 = 1
 4:select from a and v1 = 1
 4:select from a tumble 10
 5:select from a where v5 = 1
-5:select from a where v0 = 1
 5:select from a where all = 1
 5:select from a where and v1 = 1
 6:select from a where v1 == 1
-6:select from a where v1 => 1
 7:select from a where v1 = x
 7:select from a where v1 = 01
 7:select from a where v1 = -0
-7:select from a where v1 = +1
 7:select from a where v1 = 9223372036854775808
 7:select from a where v1 = -9223372036854775809
-8:select from a where v1 = 1 or v2 = 1
 8:select from a where v1 = 1 where v2 = 1
 9:select from a where v1 = 1 and and v2 = 1
-10:select from a where v1 = 1 and v2 != 1
-11:select from a where v1 = 1 and v2 = 1.5
-1:sums v1 by key from a tumble 10
 2:sum key by key from a tumble 10
-2:sum v5 by key from a tumble 10
-3:sum v1 from a tumble 10
 4:sum v1 by b from a tumble 10
-4:sum v1 by v0 from a tumble 10
 5:sum v1 by key where a tumble 10
-6:sum v1 by key from x tumble 10
 7:sum v1 by key from a where v1 = 1
 8:sum v1 by key from a tumble -1
-9:sum v1 by key from a tumble 10 10
-14:sum v1 by key from a tumble 10 where v1 = 1 and where
 8:sum v1 by key from a slide 9223372036854775808 1
-9:sum v1 by key from a slide 10 where
+9:sum v1 by key from a tumble 10 10
 10:sum v1 by key from a slide 20 10 5
-8:sum v1 by key from b tumble
-4:count by all
-5:count by all from
-6:count by all from c
 2:count v1 by key from a tumble 10
-3:count by v5 from a tumble 10
-4:count by key in a tumble 10
 5:count by key from A tumble 10
-6:count by key from a window 10
-7:count by key from a tumble 00
 8:count by key from a tumble 10 left v1 = 1
-8:count by key from a slide 1 -0
 9:count by key from a slide 1 1 right v1 = 1
 2:join ab tumble 10
-3:join a e tumble 10
-4:join a b where v1 = 1
-5:join a b tumble ten
 6:join a b tumble 10 where v1 = 1
 6:join a b tumble 10 and v1 = 1
-6:join a b slide 10 left
-7:join a b tumble 10 left all = 1
-8:join a b tumble 10 left v1 ~ 1
-9:join a b tumble 10 left v1 = --1
 10:join a b tumble 10 left v1 = 1 left v2 = 1
-11:join a b tumble 10 left v1 = 1 right and
 10:join a b tumble 10 right v1 = 1 left v1 = 1
 10:join a b tumble 10 right v1 = 1 right v1 = 1
-0:select from b where v1 < 0 and v1 > 0
-0:select from c where key < -9223372036854775808
 0:join a a tumble 0
 0:count by v4 from d slide 0 9223372036854775807
 0:join d c tumble 3 left v1 > 1 and v1 < 1 right key <= 0";
 
-/// Where the text is outside the grammar; 0 where it is a query.
+// Where the text is outside the grammar; 0 where it is a query.
 fn place_in(rt: &impl Abort, alloc: Global, bytes: &[u8]) -> Result<u64, Fail> {
     assert!(rt; is_text(bytes), "{bytes:?}");
     let text = Text::from_vec(bytes.to_vec(alloc)?);
@@ -163,7 +91,7 @@ fn place_in(rt: &impl Abort, alloc: Global, bytes: &[u8]) -> Result<u64, Fail> {
     }
 }
 
-/// The text of the row has the place of the row.
+// The text of the row has the place of the row.
 fn check_row(rt: &impl Abort, alloc: Global, row: &[u8]) -> Result<(), Fail> {
     let Some(at) = row.iter().position(|byte| *byte == b':') else {
         panic!(rt; "no place in {row:?}");
@@ -186,17 +114,37 @@ fn texts_have_their_trees(rt: HostRuntime) -> Result<(), Fail> {
     let bytes = b"sum v1 by v2 from c slide 20 10 where v3 < -5 and key >= 0".as_slice();
     assert!(rt; is_text(bytes));
     let text = Text::from_vec(bytes.to_vec(rt.alloc())?);
-    match read(rt.alloc(), &text) {
-        Ok(ast) => {
-            assert_eq!(rt; ast.kind, Kind::Sum(Col::V1));
-            assert_eq!(rt; ast.group, Group::Col(Col::V2));
-            assert_eq!(rt; ast.left, StreamId::C);
-            assert_eq!(rt; ast.right, None);
-            assert_eq!(rt; ast.win, Some((20, 10)));
-            assert_eq!(rt; ast.left_conds.as_slice().len(), 2);
-            assert_eq!(rt; ast.right_conds.as_slice().len(), 0);
-        }
-        Err(_) => panic!(rt; "no tree"),
+    let ast = read(rt.alloc(), &text)?;
+    assert_eq!(rt; ast.kind, Kind::Sum(Col::V1));
+    assert_eq!(rt; ast.group, Group::Col(Col::V2));
+    assert_eq!(rt; ast.left, StreamId::C);
+    assert_eq!(rt; ast.right, None);
+    assert_eq!(rt; ast.win, Some((20, 10)));
+    let low = Cond {
+        field: 3,
+        op: Op::Lt,
+        value: -5,
+    };
+    let high = Cond {
+        field: 0,
+        op: Op::Ge,
+        value: 0,
+    };
+    assert_eq!(rt; ast.left_conds.as_slice(), [low, high].as_slice());
+    assert!(rt; ast.right_conds.as_slice().is_empty());
+    Ok(())
+}
+
+// The longest text: 370 conditions in 4,089 bytes.
+#[test]
+fn the_longest_text_is_read(rt: HostRuntime) -> Result<(), Fail> {
+    let mut bytes = b"select from a where v1 < 50000".to_vec(rt.alloc())?;
+    for _ in 1..370 {
+        bytes.extend_from_slice(b" and v1 < 5")?;
     }
+    assert_eq!(rt; bytes.len(), 4089);
+    assert!(rt; is_text(&bytes));
+    let ast = read(rt.alloc(), &Text::from_vec(bytes))?;
+    assert_eq!(rt; ast.left_conds.as_slice().len(), 370);
     Ok(())
 }

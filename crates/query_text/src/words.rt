@@ -1,14 +1,15 @@
 ghost use Rattle.std.specs.Prelude.{◌≡◌};
-ghost use Rattle.query_text.specs.Spelling.{opening as spec_opening, is_join as spec_is_join};
-ghost use Rattle.query_text.specs.Places.{verb_of, shape_of, stream_of, column_of, group_of, op_of, field_of, side_of};
+ghost use Rattle.query_text.specs.Spelling.{opening, is_join};
+ghost use Rattle.query_text.specs.Names.{verb_named, shape_named, column_named, group_named, op_named, field_named};
+ghost use Rattle.query_text.specs.Places.{side_named};
 
 use crate::ast::Op;
 use crate::tree::{Head, Shape, Side, Stem, Verb};
-use as_base::{Col, Group, StreamId};
+use as_base::{Col, Group};
 
-/// The first word of a query.
-pub fn verb(word: &[u8]) -> Option<Verb>
-    ensures { result ≡ verb_of word.now }
+/// The verb of this name, which begins a query.
+pub fn verb_named(word: &[u8]) -> Option<Verb>
+    ensures { result ≡ verb_named word.now }
 {
     if word == b"select".as_slice() {
         Some(Verb::Select)
@@ -23,9 +24,9 @@ pub fn verb(word: &[u8]) -> Option<Verb>
     }
 }
 
-/// The first word of windows.
-pub fn shape(word: &[u8]) -> Option<Shape>
-    ensures { result ≡ shape_of word.now }
+/// The shape of this name, which begins windows.
+pub fn shape_named(word: &[u8]) -> Option<Shape>
+    ensures { result ≡ shape_named word.now }
 {
     if word == b"tumble".as_slice() {
         Some(Shape::Tumble)
@@ -36,26 +37,9 @@ pub fn shape(word: &[u8]) -> Option<Shape>
     }
 }
 
-/// A stream.
-pub fn stream(word: &[u8]) -> Option<StreamId>
-    ensures { result ≡ stream_of word.now }
-{
-    if word == b"a".as_slice() {
-        Some(StreamId::A)
-    } else if word == b"b".as_slice() {
-        Some(StreamId::B)
-    } else if word == b"c".as_slice() {
-        Some(StreamId::C)
-    } else if word == b"d".as_slice() {
-        Some(StreamId::D)
-    } else {
-        None
-    }
-}
-
-/// A column.
-pub fn column(word: &[u8]) -> Option<Col>
-    ensures { result ≡ column_of word.now }
+/// The column of this name.
+pub fn column_named(word: &[u8]) -> Option<Col>
+    ensures { result ≡ column_named word.now }
 {
     if word == b"v1".as_slice() {
         Some(Col::V1)
@@ -70,22 +54,22 @@ pub fn column(word: &[u8]) -> Option<Col>
     }
 }
 
-/// What records are grouped by.
-pub fn group(word: &[u8]) -> Option<Group>
-    ensures { result ≡ group_of word.now }
+/// What records are grouped by under this name.
+pub fn group_named(word: &[u8]) -> Option<Group>
+    ensures { result ≡ group_named word.now }
 {
     if word == b"key".as_slice() {
         Some(Group::Key)
     } else if word == b"all".as_slice() {
         Some(Group::All)
     } else {
-        column(word).map(Group::Col)
+        column_named(word).map(Group::Col)
     }
 }
 
-/// A comparison.
-pub fn op(word: &[u8]) -> Option<Op>
-    ensures { result ≡ op_of word.now }
+/// The comparison of this sign.
+pub fn op_named(word: &[u8]) -> Option<Op>
+    ensures { result ≡ op_named word.now }
 {
     if word == b"<".as_slice() {
         Some(Op::Lt)
@@ -102,9 +86,9 @@ pub fn op(word: &[u8]) -> Option<Op>
     }
 }
 
-/// A field: 0 for the key, 1 to 4 for v1 to v4.
-pub fn field(word: &[u8]) -> Option<u8>
-    ensures { result ≡ field_of word.now }
+/// The field of this name: 0 for the key, 1 to 4 for v1 to v4.
+pub fn field_named(word: &[u8]) -> Option<u8>
+    ensures { result ≡ field_named word.now }
 {
     if word == b"key".as_slice() {
         Some(0)
@@ -121,9 +105,9 @@ pub fn field(word: &[u8]) -> Option<u8>
     }
 }
 
-/// The word before the first left condition.
+// The word before the first left condition.
 fn opening(head: Head) -> &'static [u8]
-    ensures { result.now ≡ spec_opening head }
+    ensures { result.now ≡ opening head }
 {
     match head {
         Head::Windowed(Stem::Joined(..), _) => b"left".as_slice(),
@@ -131,16 +115,16 @@ fn opening(head: Head) -> &'static [u8]
     }
 }
 
-/// The query is a join.
+// The query is a join.
 fn is_join(head: Head) -> bool
-    ensures { result ≡ spec_is_join head }
+    ensures { result ≡ is_join head }
 {
     matches!(head, Head::Windowed(Stem::Joined(..), _))
 }
 
 /// The side of the condition that the word leads to, where there are left conditions, and right ones, or not.
-pub fn side(head: Head, has_left: bool, has_right: bool, word: &[u8]) -> Option<Side>
-    ensures { result ≡ side_of head has_left has_right word.now }
+pub fn side_named(head: Head, has_left: bool, has_right: bool, word: &[u8]) -> Option<Side>
+    ensures { result ≡ side_named head has_left has_right word.now }
 {
     if word == b"and".as_slice() {
         if has_right {

@@ -1,12 +1,12 @@
 -- The least slot that is off: the first word with one, and the first bit of that word.
-use Rattle.std.proofs.Common.{◌≡◌, ◌≢◌, ℕ, ◌+◌, ◌-◌, ◌*◌, ◌/◌, ◌%◌, ◌^◌, ◌<◌, ◌≤◌, Bool, true, false, cond, not, eqb, ltb, List, map, length, get_or, take, refl, sym, ap, ◌∙◌, ⊎_elim, arith, w64, lt-ltb, le-ltb, Some, None, position, get_or-take, length-take-le, pow_mono}
+use Rattle.std.proofs.Common.{◌≡◌, ◌≢◌, ℕ, ◌+◌, ◌-◌, ◌*◌, ◌/◌, ◌%◌, ◌^◌, ◌<◌, ◌≤◌, Bool, true, false, cond, not, eqb, ltb, List, map, length, get_or, take, refl, sym, ap, ◌∙◌, ⊎_elim, arith, w64, lt-ltb, le-ltb, min, Some, None, position, get_or-take, length-take-le, pow_mono}
 use Rattle.std.specs.Int.{bit_at, trailing_zeros, trailing_ones}
 use Rattle.std.specs.List.{position_or_len}
 use Rattle.std.specs.Simd.Lanes.{mask_l}
 use Rattle.std.proofs.lemmas.Bool.{cases_lt, cond-true, cond-false, eqb-true, eq-eqb, not-false, true≢false}
-use Rattle.std.proofs.lemmas.List.{get_or-map, get_or_past, length-map}
+use Rattle.std.proofs.lemmas.List.{get_or-map, get_or_past, length-map, take_all}
 use Rattle.std.proofs.lemmas.List.Sums.{position_or_len_is, fails_before_first, passes_at_first}
-use Rattle.std.proofs.lemmas.Nat.Bits.{bit_at-zero, bit_at_ones, bit_at-trailing_zeros, bit_at-trailing_ones}
+use Rattle.std.proofs.lemmas.Nat.Bits.{bit_at_ones, bit_at-trailing_zeros, bit_at-trailing_ones}
 use Rattle.std.proofs.lemmas.Simd.{bit_mask_l, mask_l-lt, Each1-get_or}
 use Rattle.queryset_lanes.specs.Words.{slots_of, IsWords, IsFirstOpen}
 use Rattle.queryset_lanes.specs.Inverse.{length-slots_of, get_or-slots_of}
@@ -32,6 +32,14 @@ first_off ws k is hk before here =
     (λ s h. ap not (on_before ws k t is hk inside before low.2 s h))
     (λ _. ap not (get_or-slots_of ws k t (omega (arith, is.eight)) inside ∙ ap (λ b. eqb b 1) low.1))
 
+-- a word that is not full has fewer than 64 ones at its low end
+pub ones-lt : (ws : List ℕ) (k : ℕ) → IsWords ws → IsFirstOpen ws k → trailing_ones w64 (get_or ws k 0) < 64
+ones-lt ws k is first =
+    let w : ℕ = get_or ws k 0 in
+    let fits : w < 2 ^ 64 = Each1-get_or (λ x. x < 2 ^ 64) ws k 0 (omega (arith, first.within, is.eight)) is.fit in
+    let here : w ≢ 2 ^ 64 - 1 = first.here in
+    (bit_at-trailing_ones w64 w (omega arith)).0
+
 -- where every word is full, no slot is off
 pub none_off : (ws : List ℕ) → IsWords ws → ((j : ℕ) → j < 8 → get_or ws j 0 ≡ 2 ^ 64 - 1) → position_or_len (λ on. not on) (slots_of ws) ≡ 512
 none_off ws is full =
@@ -47,19 +55,32 @@ position_some p xs i e h = sym (cond-true (ltb (position_or_len p xs) (length xs
 position_none : (p : Bool → Bool) (xs : List Bool) → position_or_len p xs ≡ length xs → None ≡ position p xs
 position_none p xs e = sym (cond-false (ltb (position_or_len p xs) (length xs)) (Some (position_or_len p xs)) None (le-ltb (position_or_len p xs) (length xs) (omega arith)))
 
-pub position-take_some : (p : Bool → Bool) (xs : List Bool) (n i : ℕ) → n ≤ length xs → position_or_len p xs ≡ i → i < n → Some i ≡ position p (take n xs)
-position-take_some p xs n i long e h =
+-- more than all are all
+take_within : (xs : List Bool) (n : ℕ) → take n xs ≡ take (min n (length xs)) xs
+take_within xs n = ⊎_elim
+    (λ l. ap (λ k. take k xs) (omega arith))
+    (λ g. take_all n xs g ∙ sym (take_all (min n (length xs)) xs (omega arith)))
+    (cases_lt n (length xs))
+
+some_below : (p : Bool → Bool) (xs : List Bool) (n i : ℕ) → n ≤ length xs → position_or_len p xs ≡ i → i < n → Some i ≡ position p (take n xs)
+some_below p xs n i long e h =
     let len : length (take n xs) ≡ n = length-take-le n xs long in
     position_some p (take n xs) i (position_or_len_is p (take n xs) i false (omega arith)
     (λ k hk. ap p (get_or-take n xs k false (omega arith)) ∙ fails_before_first p xs k false (omega arith))
     (λ _. ap p (get_or-take n xs i false h ∙ ap (λ j. get_or xs j false) (sym e)) ∙ passes_at_first p xs false (omega arith))) (omega arith)
 
-pub position-take_none : (p : Bool → Bool) (xs : List Bool) (n i : ℕ) → n ≤ length xs → position_or_len p xs ≡ i → n ≤ i → None ≡ position p (take n xs)
-position-take_none p xs n i long e h =
+none_below : (p : Bool → Bool) (xs : List Bool) (n i : ℕ) → n ≤ length xs → position_or_len p xs ≡ i → n ≤ i → None ≡ position p (take n xs)
+none_below p xs n i long e h =
     let len : length (take n xs) ≡ n = length-take-le n xs long in
     position_none p (take n xs) (position_or_len_is p (take n xs) (length (take n xs)) false (omega arith)
     (λ k hk. ap p (get_or-take n xs k false (omega arith)) ∙ fails_before_first p xs k false (omega arith))
     (λ k. absurd (omega arith)))
+
+pub position-take_some : (p : Bool → Bool) (xs : List Bool) (n i : ℕ) → position_or_len p xs ≡ i → i < length xs → i < n → Some i ≡ position p (take n xs)
+position-take_some p xs n i e within h = some_below p xs (min n (length xs)) i (omega arith) e (omega arith) ∙ ap (position p) (sym (take_within xs n))
+
+pub position-take_none : (p : Bool → Bool) (xs : List Bool) (n i : ℕ) → position_or_len p xs ≡ i → min n (length xs) ≤ i → None ≡ position p (take n xs)
+position-take_none p xs n i e h = none_below p xs (min n (length xs)) i (omega arith) e h ∙ ap (position p) (sym (take_within xs n))
 
 -- ---- the first lane that passes a test, by the mask of the lanes that do
 
@@ -73,9 +94,6 @@ set_bit false e = absurd (omega arith)
 clear_bit : (b : Bool) → cond {A = ℕ} b 1 0 ≡ 0 → b ≡ false
 clear_bit true e = absurd (omega arith)
 clear_bit false e = refl
-
-pub no_lane : (p : ℕ → Bool) (ws : List ℕ) → mask_l (map p ws) ≡ 0 → (k : ℕ) → k < length ws → p (get_or ws k 0) ≡ false
-no_lane p ws e k h = clear_bit (p (get_or ws k 0)) (sym (lane_bit p ws k h) ∙ ap (λ m. bit_at m k) e ∙ bit_at-zero k)
 
 past_lanes : (p : ℕ → Bool) (ws : List ℕ) (k : ℕ) → length ws ≤ k → bit_at (mask_l (map p ws)) k ≡ 1 → ⊥
 past_lanes p ws k g e =

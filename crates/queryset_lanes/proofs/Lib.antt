@@ -2,4 +2,3 @@ pub mod Words
 pub mod Counts
 pub mod First
 pub mod Blocks
-pub mod Slots

@@ -5,7 +5,7 @@ use Rattle.std.specs.Int.Bits.{bit_and, bit_or, and_lt, or_lt}
 use Rattle.std.specs.Simd.Lanes.{zip2, Each1}
 use Rattle.std.proofs.lemmas.Bool.{cases_eq}
 use Rattle.std.proofs.lemmas.Nat.Bits.{bit_at_and, bit_at_or, bit_at_not, bit_at-lt, bit_at-zero, bit_at_ones, bit_at_set_same, bit_at_set_other, bit_at_clear_same, bit_at_clear_other}
-use Rattle.std.proofs.lemmas.Simd.{length-zip2, get_or-zip2, Each1-zip2, Each2-of, Each1-replicate}
+use Rattle.std.proofs.lemmas.Simd.{length-zip2, get_or-zip2, Each1-zip2, Each2-of}
 use Rattle.std.proofs.lemmas.List.{set-append_left, set-append_right, length-map, length-replicate, get_or-replicate, replicate-append-replicate}
 use Rattle.queryset_lanes.specs.Slots.{both, either, but_not}
 use Rattle.queryset_lanes.specs.Words.{word_slots, slots_of, IsWords}
@@ -138,9 +138,6 @@ slots_of_none = slots_of_all 0 false (word_slots_all 0 false (λ i h. ap (λ n. 
 
 pub slots_of_full : slots_of (replicate 8 (2 ^ 64 - 1)) ≡ replicate 512 true
 slots_of_full = slots_of_all (2 ^ 64 - 1) true (word_slots_all (2 ^ 64 - 1) true (λ i h. ap (λ n. eqb n 1) (bit_at_ones 64 i h))) 8
-
-pub IsWords-splat : (w : ℕ) → w < 2 ^ 64 → IsWords (replicate 8 w)
-IsWords-splat w h = record { eight = length-replicate 8 w; fit = Each1-replicate (λ x. x < 2 ^ 64) 8 w h }
 
 -- ---- one slot
 

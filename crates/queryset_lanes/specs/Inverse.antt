@@ -10,10 +10,12 @@ use Rattle.queryset_lanes.specs.Words.{word_slots, slots_of, word_at, words_of, 
 
 -- ---- one word
 
+-- a word has 64 slots
 pub length-word_slots : (w : ℕ) → length (word_slots w) ≡ 64
 unfolding word_slots
 length-word_slots w = length-map-range_with_len (λ i. eqb (bit_at w i) 1) 0 64
 
+-- each of which is a bit of it
 pub get_or-word_slots : (w i : ℕ) → i < 64 → get_or (word_slots w) i false ≡ eqb (bit_at w i) 1
 unfolding word_slots
 get_or-word_slots w i h = get_or-map-range_with_len (λ j. eqb (bit_at w j) 1) 0 64 i i false h (zero-add i)
@@ -34,6 +36,7 @@ mask_l-word_slots w fits =
 
 -- ---- eight words
 
+-- words have 64 slots each
 pub length-slots_of : (ws : List ℕ) → length (slots_of ws) ≡ 64 * length ws
 unfolding slots_of
 length-slots_of [] = refl
@@ -49,6 +52,7 @@ get_or-slots_of ws k i hk hi =
     ∙ get_or-flat_map word_slots ws k i 0 false hk (omega arith)
     ∙ get_or-word_slots (get_or ws k 0) i hi
 
+-- the word that some slots spell is the word that has them
 word_at-slots_of : (ws : List ℕ) → Each1 (λ w. w < 2 ^ 64) ws → (k : ℕ) → k < length ws → get_or ws k 0 ≡ word_at (slots_of ws) (64 * k)
 unfolding word_at
 word_at-slots_of ws fit k h =
@@ -57,6 +61,7 @@ word_at-slots_of ws fit k h =
     ∙ ap mask_l (fill_by_all (λ i. get_or (slots_of ws) (64 * k + i) false) (word_slots w) 64 false (length-word_slots w)
     (λ i below. get_or-word_slots w i below ∙ sym (get_or-slots_of ws k i h below)))
 
+-- eight words are given back by their slots
 pub words_of-slots_of : (ws : List ℕ) → IsWords ws → words_of (slots_of ws) ≡ ws
 unfolding words_of
 words_of-slots_of ws is = sym (fill_by_all (λ k. word_at (slots_of ws) (64 * k)) ws 8 0 is.eight (λ k h. word_at-slots_of ws is.fit k (omega (arith, is.eight))))

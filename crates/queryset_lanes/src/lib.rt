@@ -9,7 +9,7 @@ use std::marker::Model;
 use std::simd::prelude::*;
 
 /// A set of query slots, each below 512: contracts see it as 512 truth values, one per slot. No call takes memory.
-#[derive(Clone, Copy, Debug)]
+#[derive(Clone, Copy, Debug, PartialEq, Eq)]
 pub struct QuerySet {
     words: [u64; 8],
 }
@@ -45,6 +45,16 @@ impl QuerySet {
         ensures { result ≡ replicate 512 true }
     {
         QuerySet::from_lanes(u64x8::splat(u64::MAX))
+    }
+
+    /// The set whose slots are the bits of the words: slot 64 k + i is bit i of word k, the lowest bit first.
+    pub fn from_words(words: [u64; 8]) -> QuerySet
+        ensures { result ≡ slots_of words }
+    {
+        let [a, b, c, d, e, f, g, h] = words;
+        QuerySet {
+            words: [a, b, c, d, e, f, g, h],
+        }
     }
 
     /// The slots that are in both sets.
@@ -119,7 +129,6 @@ impl QuerySet {
 
     /// The least slot below `below` that is not in the set, or `None` where each slot below it is in the set.
     pub fn least_unset(&self, below: u16) -> Option<u16>
-        requires { below ≤ 512 }
         ensures slots { length self.now ≡ 512 }
         ensures value { result ≡ position (λ on. not on) (take below self.now) }
     {
@@ -129,14 +138,14 @@ impl QuerySet {
         if slot < below { Some(slot) } else { None }
     }
 
-    /// A word that is 0 exactly where the sets have no slot in common.
+    // A word that is 0 exactly where the sets have no slot in common.
     fn common(&self, o: &QuerySet) -> u64
         ensures { (result == 0) ≡ not (meets self.now o.now) }
     {
         (self.lanes() & o.lanes()).reduce_or()
     }
 
-    /// The words, as lanes.
+    // The words, as lanes.
     fn lanes(&self) -> u64x8
         ensures words { IsWords result }
         ensures slots { slots_of result ≡ self.now }
@@ -145,7 +154,7 @@ impl QuerySet {
         u64x8::from_array(self.words)
     }
 
-    /// The set of the slots that stand in the lanes.
+    // The set of the slots that stand in the lanes.
     fn from_lanes(lanes: u64x8) -> QuerySet
         requires { IsWords lanes }
         ensures { result ≡ slots_of lanes }
@@ -173,7 +182,7 @@ pub fn count_meeting(sets: &[QuerySet], mask: &QuerySet) -> usize
     meeting_in_blocks(blocks, mask) + meeting_in_rest(rest, mask)
 }
 
-/// How many sets of the blocks have a slot in common with the mask.
+// How many sets of the blocks have a slot in common with the mask.
 fn meeting_in_blocks(blocks: &[[QuerySet; 8]], mask: &QuerySet) -> usize
     requires { length blocks.now * 8 < 2 ^ 64 }
     ensures fits { result ≤ length blocks.now * 8 }
@@ -186,7 +195,7 @@ fn meeting_in_blocks(blocks: &[[QuerySet; 8]], mask: &QuerySet) -> usize
     count
 }
 
-/// How many of eight sets have a slot in common with the mask: a lane for each set.
+// How many of eight sets have a slot in common with the mask: a lane for each set.
 fn meeting_in_block(sets: &[QuerySet; 8], mask: &QuerySet) -> u32
     ensures fits { result ≤ 8 }
     ensures value { result ≡ count_by (λ set. meets set mask.now) sets.now }
@@ -201,14 +210,14 @@ fn meeting_in_block(sets: &[QuerySet; 8], mask: &QuerySet) -> u32
         .count_ones()
 }
 
-/// How many sets have a slot in common with the mask, one by one.
+// How many sets have a slot in common with the mask, one by one.
 fn meeting_in_rest(sets: &[QuerySet], mask: &QuerySet) -> usize
     ensures { result ≡ count_by (λ set. meets set mask.now) sets.now }
 {
     sets.iter().filter(|set| set.common(mask) != 0).count()
 }
 
-/// The place of the first word with a slot that is not in the set.
+// The place of the first word with a slot that is not in the set.
 fn first_open(words: u64x8) -> Option<usize>
     requires { IsWords words }
     ensures none { IfNone result ((k : ℕ) → k < 8 → slice_index words k ≡ u64.MAX) }
@@ -235,7 +244,9 @@ mod tests {
         assert_eq!(rt; low.least_unset(512), Some(2));
         assert_eq!(rt; low.least_unset(3), Some(2));
         assert_eq!(rt; low.least_unset(2), None);
+        assert_eq!(rt; low.least_unset(1000), Some(2));
         assert_eq!(rt; QuerySet::all().least_unset(512), None);
+        assert_eq!(rt; QuerySet::all().least_unset(1000), None);
         assert_eq!(rt; QuerySet::all().with(63, false).least_unset(512), Some(63));
         assert_eq!(rt; QuerySet::all().with(64, false).least_unset(512), Some(64));
         assert_eq!(rt;
@@ -258,6 +269,8 @@ mod tests {
             .with(64, true)
             .with(300, true)
             .with(511, true);
+        assert!(rt; others == QuerySet::from_words([0, 1, 0, 0, 1 << 44, 0, 0, 1 << 63]));
+        assert!(rt; others != some);
         let left = some.and_not(&others);
         assert_eq!(rt; left.ones(), 3);
         assert!(rt; left.test(1) && left.test(130) && left.test(200));

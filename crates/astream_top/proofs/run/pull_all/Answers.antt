@@ -1,40 +1,43 @@
-use Rattle.std.proofs.Common.{◌++◌, ◌≤◌, ◌∙◌, subst, arith, length, Err}
+use Rattle.std.proofs.Common.{◌++◌, ◌≤◌, subst, arith, length, Err}
 use Rattle.std.proofs.lemmas.Result.{err_from_is_err_and}
 use Rattle.as_outside.specs.Log.{pulled}
-use Rattle.as_outside.proofs.Calls.{tells_after, SameOutputs-after}
+use Rattle.as_outside.proofs.MakesLaws.{makes_after}
 use Rattle.astream_top.specs.Run.{IsRun}
 use Rattle.astream_top.proofs.PullLaws.{ended}
 use Rattle.astream_top.proofs.run.pull_all.Goals as goal
 
-pub returns-in_err-pulled-clause-calls : goal.returns-in_err-pulled-clause-calls
-returns-in_err-pulled-clause-calls g c =
+pub returns-in_err-pulled : goal.returns-in_err-pulled
+returns-in_err-pulled g c =
     let so-far = c.pulls.invariant.calls in
-    let last = c.in_err-pulled.ensures.calls so-far.0 so-far.2.0 in
-    let p = err_from_is_err_and c.from_residual.result c.from_residual.ensures.1 in (
-      so-far.0 ++ last.0,
-      tells_after _ _ _ _ _ so-far.1 last.1,
-      rw (p.1, p.2) (subst (λ n. IsRun n c.pull_once.new.run.processor.lines (Err c.in_err-pulled.field-0.0) (so-far.0 ++ last.0)) so-far.2.1 last.2),
-    )
+    let last = c.in_err-pulled.ensures.calls _ so-far.calls so-far.holds.0 in
+    let p = err_from_is_err_and c.from_residual.result c.from_residual.ensures.1 in
+    record {
+      calls = so-far.calls ++ last.calls;
+      makes = makes_after _ _ _ _ _ so-far.makes last.makes;
+      holds = rw (p.1, p.2) (subst (λ n. IsRun (g.E.QueryEngine.config c.args.run.now.processor.engine) n c.pull_once.new.run.processor.lines (Err c.in_err-pulled.field-0.0) (so-far.calls ++ last.calls)) so-far.holds.1 last.holds);
+    }
 
-pub returns-then-pulled-eq0-clause-calls : goal.returns-then-pulled-eq0-clause-calls
-returns-then-pulled-eq0-clause-calls g c =
+pub returns-then-pulled-eq0 : goal.returns-then-pulled-eq0
+returns-then-pulled-eq0 g c =
     let so-far = c.pulls.invariant.calls in
-    let once = c.in_ok-pulled.ensures.calls so-far.0 so-far.2.0 in
-    let finish = c.end.ensures.calls _ _ once.2.0.taken in
-    let fits : length (pulled (so-far.0 ++ once.0)) ≤ c.args.limit = omega (arith, so-far.2.1, once.2.1) in (
-      (so-far.0 ++ once.0) ++ finish.0,
-      tells_after _ _ _ _ _ (tells_after _ _ _ _ _ so-far.1 once.1) finish.1,
-      ended c.pull_once.new.run c.args.limit c.end.new.run.processor.lines c.end.result (so-far.0 ++ once.0) finish.0 once.2.0 fits (once.2.2 c.if-pulled-eq0.true) finish.2,
-    )
+    let once = c.in_ok-pulled.ensures.calls _ so-far.calls so-far.holds.0 in
+    let finish = c.end.ensures _ _ _ once.holds.0.taken in
+    let fits : length (pulled (so-far.calls ++ once.calls)) ≤ c.args.limit = omega (arith, so-far.holds.1, once.holds.1) in
+    record {
+      calls = (so-far.calls ++ once.calls) ++ finish.calls;
+      makes = makes_after _ _ _ _ _ (makes_after _ _ _ _ _ so-far.makes once.makes) finish.makes;
+      holds = ended c.pull_once.new.run c.args.limit c.end.new.run.processor.lines c.end.result (so-far.calls ++ once.calls) finish.calls once.holds.0 fits (once.holds.2 c.if-pulled-eq0.true) finish.holds;
+    }
 
 pub pulls-preserved : goal.pulls-preserved
 pulls-preserved g c =
     let so-far = c.pulls.invariant.calls in
-    let once = c.in_ok-pulled.ensures.calls so-far.0 so-far.2.0 in
+    let once = c.in_ok-pulled.ensures.calls _ so-far.calls so-far.holds.0 in
     record {
-      calls = (so-far.0 ++ once.0, tells_after _ _ _ _ _ so-far.1 once.1, (once.2.0, omega (arith, so-far.2.1, once.2.1, c.in_ok-pulled.ensures.room)));
+      calls = record {
+        calls = so-far.calls ++ once.calls;
+        makes = makes_after _ _ _ _ _ so-far.makes once.makes;
+        holds = (once.holds.0, omega (arith, so-far.holds.1, once.holds.1, c.in_ok-pulled.ensures.room));
+      };
       count = omega (arith, c.pulls.invariant.count, c.in_ok-pulled.ensures.count, c.in_ok-pulled.ensures.room);
-      says = c.in_ok-pulled.ensures.counted.0 ∙ c.pulls.invariant.says;
-      pulls = c.in_ok-pulled.ensures.counted.1 ∙ c.pulls.invariant.pulls;
-      outputs = SameOutputs-after _ _ _ c.pulls.invariant.outputs c.in_ok-pulled.ensures.counted.2;
     }

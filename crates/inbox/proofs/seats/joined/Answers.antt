@@ -5,7 +5,7 @@ use Rattle.inbox.proofs.Closing.{five_same, loads_kept}
 use Rattle.inbox.proofs.seats.joined.Goals as goal
 
 pub returns-clause-offered : goal.returns-clause-offered
-returns-clause-offered c =
+returns-clause-offered g c =
     let last = view c.bring-5.new.into in
     let after : KeepsRoles (view c.bring-2.new.into) last = λ r l e. c.bring-5.ensures.kept r l (c.bring-4.ensures.kept r l (c.bring-3.ensures.kept r l e)) in
     five_same offered (λ p. loads (list_of last (feeder_in p))) c.args.feeds _ _ _ _ _ c.apart-first.ensures

@@ -1,6 +1,6 @@
 use Rattle.std.proofs.Common.{◌≡◌, ◌++◌}
 use Rattle.query_text.specs.Spelling.{conds_words}
-use Rattle.query_plan.specs.Text.{spaced}
+use Rattle.as_words.specs.Words.{spaced}
 use Rattle.query_plan.proofs.TextLaws.{lead_after, first_conds}
 use Rattle.query_plan.proofs.explaining.append_conds.Given as goal
 

@@ -1,5 +1,5 @@
-use Rattle.query_plan.proofs.TextLaws.{canonical_text-read}
+use Rattle.query_plan.proofs.TextLaws.{plan_of-canonical_text}
 use Rattle.query_plan.proofs.laws.explained_plans_are_read.Goals as goal
 
 pub returns : goal.returns
-returns c = canonical_text-read
+returns c = plan_of-canonical_text

@@ -1,7 +1,0 @@
-use Rattle.std.proofs.Common.{◌≡◌, ◌++◌, map, take}
-use Rattle.std.specs.Fmt.{signed_decimal}
-use Rattle.as_lineform.specs.Spelling.{spaced}
-use Rattle.as_lineform.proofs.spelling.append_integers.Given as goal
-
-abbrev pub invariant-loop-number : goal.invariant-loop-number
-invariant-loop-number l = l.out.items ≡ l.fn.out.items ++ spaced (map signed_decimal (take l.number-index l.numbers))

@@ -1,9 +1,0 @@
-use Rattle.std.proofs.Common.{[]}
-use Rattle.as_outside.proofs.Calls.{tells_none}
-use Rattle.astream_top.proofs.top.run_within.Goals as goal
-
-pub returns-in-Err-clause-no_memory : goal.returns-in-Err-clause-no_memory
-returns-in-Err-clause-no_memory g c = λ _. ([], tells_none _, record { prompt = tt; faultless = tt })
-
-pub returns-in-Err-start-clause-no_memory : goal.returns-in-Err-start-clause-no_memory
-returns-in-Err-start-clause-no_memory g c = λ _. ([], tells_none _, record { prompt = tt; faultless = tt })

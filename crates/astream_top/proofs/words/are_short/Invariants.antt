@@ -1,6 +1,0 @@
-use Rattle.std.proofs.Common.{◌≡◌, ◌+◌, map, length, take, string_bytes}
-use Rattle.query_plan.specs.Text.{spaced}
-use Rattle.astream_top.proofs.words.are_short.Given as goal
-
-abbrev pub invariant-loop-word : goal.invariant-loop-word
-invariant-loop-word l = l.room + length (spaced (map string_bytes (take l.word-index l.words))) ≡ 4090

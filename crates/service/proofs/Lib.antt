@@ -1,0 +1,4 @@
+pub mod GoesLaws
+pub mod DueLaws
+pub mod CueLaws
+pub mod ProcessedLaws

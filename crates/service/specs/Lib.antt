@@ -1,0 +1,13 @@
+pub mod AnswerText
+pub mod Due
+pub mod Calls
+pub mod Stop
+pub mod Processor
+pub use Rattle.as_base.specs.Range
+pub use Rattle.as_outside.specs.Makes
+pub use Rattle.as_outside.specs.Outputs
+pub use Rattle.as_outside.specs.Failures
+pub use Rattle.session.specs.Outcome
+pub use Rattle.session.specs.Acceptance
+pub use Rattle.session.specs.Stage
+pub use Rattle.session.specs.Shut

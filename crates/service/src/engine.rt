@@ -1,0 +1,63 @@
+ghost use Rattle.std.specs.Prelude.{◌≡◌, ◌<◌, ◌+◌, ◌++◌, ◌^◌, [], ◌∷◌, ℕ, List, length, IfOk, OnOk};
+ghost use Rattle.as_base.specs.declared.config.Config.{Config};
+ghost use Rattle.as_base.specs.declared.item.Item.{Item};
+ghost use Rattle.as_base.specs.Range.{InRange};
+ghost use Rattle.session.specs.Stage.{taken};
+ghost use Rattle.session.specs.Acceptance.{has_ended};
+ghost use Rattle.session.specs.Shut.{shut};
+ghost use Rattle.session.specs.Outcome.{Adds, IsFed, ArePieces};
+
+use as_base::{Fed, Item, NoMemory, Pieces, StreamId};
+
+/// What decides items: the answer to each, and the pieces of text that it makes due on the outputs of queries.
+///
+/// An implementor may hold what its work needs beside the items, such as the runtime and the gate. Its one refusal is
+/// `NoMemory`, to which an engine with faults of its own (`EngineFault`) maps them. After a refusal it is of no more use.
+pub trait QueryEngine {
+    /// What it is configured for.
+    ghost config: { Self → Config };
+
+    /// It has taken these items, from the first on, in this order.
+    ghost stands: { Self → List Item → Type 0 };
+
+    /// How many items it has taken.
+    ghost count: { Self → ℕ };
+
+    /// Takes an item whose numbers are in their ranges, where fewer than 2^62 came before it.
+    ///
+    /// `stands`: for any items that it stood for, it now stands for one more, and what it tells is what that item brings
+    /// about by the rule: its answer, if it has one, the query that it creates, and for each query the whole text that it
+    /// makes due. `order`: the pieces stand by rising query number, and none is empty. `count`: it has taken one item
+    /// more. `config`: what it is configured for stays, also after a refusal.
+    fn feed(&mut self, item: Item) -> Result<Fed, NoMemory>
+        requires range { InRange item }
+        requires few { count self.old < 2 ^ 62 }
+        ensures stands { (h : List Item) → stands self.old h → IfOk result (λ fed.
+            stands self.new (h ++ item ∷ []) × IsFed (config self.old) h item fed) }
+        ensures order { IfOk result (λ fed. ArePieces fed.pieces) }
+        ensures count { OnOk result (count self.new ≡ count self.old + 1) }
+        ensures config { config self.new ≡ config self.old };
+
+    /// The pieces that the ends of the streams that have not ended make due.
+    ///
+    /// `due`: for any items that it stands for, the pieces have the whole text that these ends make due, and no query is
+    /// created. `order`: they stand by rising query number, and none is empty. `kept`: it stands for the same items as
+    /// before. `count`, `config`: both stay, also after a refusal.
+    fn finish(&mut self) -> Result<Pieces, NoMemory>
+        ensures due { (h : List Item) → stands self.old h → IfOk result (λ pieces.
+            let before = taken (config self.old) h in Adds (config self.old) before (shut (config self.old) before) [] pieces) }
+        ensures order { IfOk result ArePieces }
+        ensures kept { (h : List Item) → stands self.old h → IfOk result (λ _. stands self.new h) }
+        ensures count { count self.new ≡ count self.old }
+        ensures config { config self.new ≡ config self.old };
+
+    /// Whether an end of the stream was accepted: for any items that it stands for, just where one was.
+    fn ended(&self, stream: StreamId) -> bool
+        ensures { (h : List Item) → stands self.now h →
+            result ≡ has_ended (config self.now) (taken (config self.now) h) stream };
+
+    /// How many items it has taken: its count (`value`), and the length of any items that it stands for (`stands`).
+    fn items(&self) -> u64
+        ensures value { result ≡ count self.now }
+        ensures stands { (h : List Item) → stands self.now h → result ≡ length h };
+}

@@ -1,0 +1,9 @@
+pub mod WalkLaws
+pub mod ListLaws
+pub mod ClockLaws
+pub mod NumberLaws
+pub mod BookLaws
+pub mod KeptLaws
+pub mod TextLaws
+pub mod StepLaws
+pub mod StageLaws

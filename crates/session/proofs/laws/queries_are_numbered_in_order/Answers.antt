@@ -1,0 +1,5 @@
+use Rattle.session.proofs.BookLaws.{book-in_order}
+use Rattle.session.proofs.laws.queries_are_numbered_in_order.Goals as goal
+
+pub returns : goal.returns
+returns c = book-in_order

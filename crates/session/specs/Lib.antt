@@ -1,0 +1,17 @@
+pub mod Stage
+pub mod Selection
+pub mod Acceptance
+pub mod Book
+pub mod Answers
+pub mod View
+pub mod Shut
+pub mod Outcome
+pub mod Kept
+pub mod Session
+pub use Rattle.as_base.specs.Range
+pub use Rattle.as_base.specs.Times
+pub use Rattle.as_base.specs.declared.config.Config
+pub use Rattle.as_base.specs.declared.item.Given
+pub use Rattle.as_base.specs.declared.item.Item
+pub use Rattle.as_base.specs.declared.stream.StreamId
+pub use Rattle.views.specs.Query

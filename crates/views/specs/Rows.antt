@@ -1,0 +1,21 @@
+-- The rows that are due to a query by a view, before they are text.
+use Rattle.std.specs.Prelude.{◌+◌, nat_le, Bool, List, map}
+use Rattle.std.specs.List.{filter}
+use Rattle.as_base.specs.declared.item.Record.{Record}
+use Rattle.as_base.specs.declared.row.Row.{Row}
+use Rattle.as_base.specs.declared.row.Row.TheVariants.{Sel}
+use Rattle.views.specs.Query.{Query}
+use Rattle.views.specs.View.{View, mine, query_watermark}
+use Rattle.views.specs.Order.{in_order}
+
+-- the records that a selection picks, in order
+abbrev pub picked : View → Query → List Record
+picked v q = in_order (mine v q q.plan.left)
+
+-- the query's watermark has passed the record
+abbrev pub is_passed : View → Query → Record → Bool
+is_passed v q r = nat_le (r.given.time + 1) (query_watermark v q)
+
+-- The rows of a selection: the passed records that it picks, in order.
+abbrev pub due_rows : View → Query → List Row
+due_rows v q = map (λ (r : Record). Sel r.given) (filter (is_passed v q) (picked v q))
