@@ -16,26 +16,35 @@ TOP = os.path.dirname(os.path.dirname(os.path.abspath(__file__)))
 PROGRAM = os.path.join(TOP, "crates", "astream", "out", "astream")
 
 
+STREAMS = "abcd"
+
+
 def records(count):
-    """Records of stream a at rising times, with a watermark after every thousand."""
+    """Records of the four streams in turn at rising times, with a watermark of each after every thousand."""
     chance = random.Random(1)
     at = 0
     for number in range(1, count + 1):
         at += chance.randrange(3)
         values = (chance.randrange(100000), chance.randrange(100), chance.randrange(-50, 50), 0)
-        yield f"rec a {at} {chance.randrange(1000)} " + " ".join(map(str, values))
+        yield f"rec {STREAMS[number % 4]} {at} {chance.randrange(1000)} " + " ".join(map(str, values))
         if number % 1000 == 0:
-            yield f"mark a {at}"
+            yield from (f"mark {stream} {at}" for stream in STREAMS)
+
+
+def selections(count, condition):
+    """So many selections, spread over the four streams."""
+    return [f"create select from {STREAMS[n % 4]} where {condition(n)}" for n in range(count)]
 
 
 def cases():
     yield "no query", []
-    yield "one selection of all", ["create select from a"]
-    yield "one selection that a tenth of the records meets", ["create select from a where v1 < 10000"]
-    yield "64 selections of all", ["create select from a"] * 64
-    keys = [f"create select from a where key >= {15 * n} and key < {15 * n + 15} and v2 < 50" for n in range(64)]
-    yield "64 selections of fifteen keys each under a second condition", keys
-    yield "64 selections that no record meets", ["create select from a where v1 < 0"] * 64
+    for count in 1, 64, 512:
+        width = max(1, 4000 // count)
+        yield f"{count} selections of keys of their own", selections(
+            count, lambda n: f"key >= {n // 4 * width} and key < {n // 4 * width + width} and v2 < 50"
+        )
+        yield f"{count} selections that no record meets", selections(count, lambda n: "v1 < 0")
+    yield "64 selections of all of a stream", selections(64, lambda n: "v1 >= 0")
 
 
 def best(words, path, folder, runs):
@@ -60,7 +69,7 @@ def main():
             with open(path, "w") as out:
                 out.write("\n".join(queries + body) + "\n")
             lines = len(queries) + len(body)
-            took = best([PROGRAM, "run"], path, folder, runs)
+            took = best([PROGRAM, "run", "--slots", "512"], path, folder, runs)
             counted = best(["wc", "-l"], path, folder, runs)
         print(f"{name:62} {lines / took / 1e6:7.2f} {took / counted:8.0f}")
 

@@ -5,4 +5,5 @@ pub mod Windows
 pub mod Config
 pub mod Query
 pub mod Times
+pub mod Pieces
 pub mod Worked

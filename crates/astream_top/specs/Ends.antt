@@ -8,7 +8,6 @@ use Rattle.as_outside.specs.Entries.{HasNo}
 use Rattle.as_outside.specs.Failures.{EndsWith, IsFaultless}
 use Rattle.as_outside.specs.Outputs.{AreOutputs}
 use Rattle.as_lineform.specs.Lines.{lines, items}
-use Rattle.session.specs.Stage.{taken}
 use Rattle.session.specs.Book.{numbers}
 use Rattle.session.specs.View.{text_of}
 use Rattle.session.specs.Shut.{shut}
@@ -27,7 +26,7 @@ pub record IsDone (c : Config) (limit count : ℕ) (calls : List Entry) : Type 0
   pub fits : length (pulled calls) ≤ limit
   pub all_lines : count ≡ length (items (pulled calls))
   pub said : said calls ≡ answers_text c (items (pulled calls)) ++ done_text count
-  pub outputs : AreOutputs (numbers c (shut c (taken c (items (pulled calls))))) (text_of c (shut c (taken c (items (pulled calls))))) calls
+  pub outputs : AreOutputs (numbers c (shut c (items (pulled calls)))) (text_of c (shut c (items (pulled calls)))) calls
   pub faultless : IsFaultless calls
 
 -- The byte after the limit was pulled: all that is due for the lines within the limit is out.

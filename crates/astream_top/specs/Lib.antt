@@ -1,4 +1,5 @@
 pub mod Command
+pub mod Engine
 pub mod Explanation
 pub mod Prompt
 pub mod Ends
@@ -6,12 +7,14 @@ pub mod Run
 pub mod Causes
 pub mod Rows
 pub use Rattle.as_words.specs.Words
+pub use Rattle.as_base.specs.Config
+pub use Rattle.options.specs.Options
 pub use Rattle.as_outside.specs.Log
 pub use Rattle.as_outside.specs.Failures
 pub use Rattle.as_outside.specs.Outputs
 pub use Rattle.as_outside.specs.Makes
 pub use Rattle.as_lineform.specs.Lines
-pub use Rattle.session.specs.Stage
+pub use Rattle.session.specs.Answers
 pub use Rattle.session.specs.Book
 pub use Rattle.session.specs.View
 pub use Rattle.session.specs.Shut

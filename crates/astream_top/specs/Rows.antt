@@ -1,21 +1,33 @@
 -- Worked inputs, evaluated on the definitions alone.
-use Rattle.std.specs.Prelude.{ℕ, ◌≡◌, refl, replicate, List, [], ◌∷◌, ◌++◌, codes}
+use Rattle.std.specs.Prelude.{ℕ, ◌≡◌, refl, Some, None, replicate, List, [], ◌∷◌, ◌++◌, codes}
 use Rattle.std.specs.Fmt.{digits}
 use Rattle.as_lineform.specs.Lines.{items}
-use Rattle.session.specs.Stage.{stage, taken}
+use Rattle.as_base.specs.declared.config.Config.{Config}
 use Rattle.session.specs.View.{text_of}
 use Rattle.session.specs.Shut.{shut}
 use Rattle.service.specs.AnswerText.{answers_text, done_text}
+use Rattle.astream_top.specs.declared.command.Command.TheVariants.{Run}
+use Rattle.astream_top.specs.Command.{command_of}
+
+-- the configuration of `run` with so many streams and slots, and that of `run` alone
+abbrev with : ℕ → ℕ → Config
+with streams slots = record { streams = streams; slots = slots; parts = 4; lane = 1024 }
+
+abbrev usual : Config
+usual = with 4 64
 
 -- the answers to an input, and the text of output n after its lines, and after its end
+abbrev answers_for : Config → List ℕ → List ℕ
+answers_for c bytes = answers_text c (items bytes)
+
 abbrev answered : List ℕ → List ℕ
-answered bytes = answers_text stage (items bytes)
+answered bytes = answers_for usual bytes
 
 abbrev held_at : ℕ → List ℕ → List ℕ
-held_at n bytes = text_of stage (taken stage (items bytes)) n
+held_at n bytes = text_of usual (items bytes) n
 
 abbrev held_in_the_end : ℕ → List ℕ → List ℕ
-held_in_the_end n bytes = text_of stage (shut stage (taken stage (items bytes))) n
+held_in_the_end n bytes = text_of usual (shut usual (items bytes)) n
 
 abbrev passed_input : List ℕ
 passed_input = codes "create select from a\nrec a 5 1 10 0 0 0\nmark a 6\n"
@@ -40,13 +52,13 @@ unfolding digits
 waiting_output_in_the_end = refl
 
 abbrev refused_input : List ℕ
-refused_input = codes "create select from a\nrec a 10 1 0 0 0 0\nrec a 9 1 0 0 0 0\nmark a 4\nmark a 3\nend a\nmark b 1\n"
+refused_input = codes "create select from a\nrec a 10 1 0 0 0 0\nrec a 9 1 0 0 0 0\nmark a 4\nmark a 3\nend a\nrec a 11 1 0 0 0 0\nmark b 1\nend a\n"
 
-pub refused_answers : answered refused_input ≡ codes "1 created 1 at 0\n3 late\n5 back\n6 later\n7 later\n"
+pub refused_answers : answered refused_input ≡ codes "1 created 1 at 0\n3 late\n5 back\n7 ended\n9 ended\n"
 unfolding digits
 refused_answers = refl
 
-pub refused_output : held_in_the_end 1 refused_input ≡ codes "10 1 0 0 0 0\n"
+pub refused_output : held_at 1 refused_input ≡ codes "10 1 0 0 0 0\n"
 unfolding digits
 refused_output = refl
 
@@ -90,31 +102,62 @@ pub malformed_lines : answered (replicate 5000 120 ++ 10 ∷ 195 ∷ 169 ∷ cod
 unfolding digits
 malformed_lines = refl
 
--- what is yet to be built is answered `later` before any other refusal, and ends and deletes nothing
-abbrev unbuilt_input : List ℕ
-unbuilt_input = codes "create select from a\nend a\ndelete 1\ndelete 7\nrec a 3 1 0 0 0 0\nrec b 2 1 0 0 0 0\nmark c 9\ncreate select from b\ncreate select from a\nmark a 4\n"
-
-pub unbuilt_answers : answered unbuilt_input ≡ codes "1 created 1 at 0\n2 later\n3 later\n4 later\n6 later\n7 later\n8 later\n9 created 2 at 4\n"
+-- a sum, a count and a join are not built yet
+pub later_answers : answered (codes "create count by all from a tumble 5\ncreate select from a\n") ≡ codes "1 later\n2 created 1 at 0\n"
 unfolding digits
-unbuilt_answers = refl
+later_answers = refl
 
-pub unbuilt_output : held_at 1 unbuilt_input ≡ codes "3 1 0 0 0 0\n"
+-- the one slot is free again from the deletion on
+abbrev full_input : List ℕ
+full_input = codes "create select from a\ncreate select from a\ndelete 1\ncreate select from a\n"
+
+pub full_answers : answers_for (with 4 1) full_input ≡ codes "1 created 1 at 0\n2 full\n3 deleted 1 at 0\n4 created 2 at 0\n"
 unfolding digits
-unbuilt_output = refl
+full_answers = refl
 
-pub unbuilt_output_in_the_end : held_in_the_end 2 unbuilt_input ≡ []
+-- two queries have one slot and one time of creation, and each its own rows
+abbrev reused_input : List ℕ
+reused_input = codes "create select from a\ndelete 1\ncreate select from a\nrec a 0 1 1 0 0 0\nmark a 1\n"
+
+pub reused_answers : answers_for (with 4 1) reused_input ≡ codes "1 created 1 at 0\n2 deleted 1 at 0\n3 created 2 at 0\n"
 unfolding digits
-unbuilt_output_in_the_end = refl
+reused_answers = refl
 
--- texts in each order of refusal, and a selection with a bound
-abbrev texts_input : List ℕ
-texts_input = codes "create select form a\ncreate join a a tumble 0\ncreate count by all from a tumble 0\ncreate\ncreate select from d\ncreate select from a where v1 > 4\nrec a 1 1 5 0 0 0\nrec a 2 1 4 0 0 0\nmark a 3\n"
-
-pub texts_answers : answered texts_input ≡ codes "1 syntax 2\n2 twin\n3 window\n4 syntax 1\n5 later\n6 created 1 at 0\n"
+pub first_of_slot : text_of (with 4 1) (shut (with 4 1) (items reused_input)) 1 ≡ []
 unfolding digits
-texts_answers = refl
+first_of_slot = refl
 
-pub bounded_output : held_at 1 texts_input ≡ codes "1 1 5 0 0 0\n"
+pub second_of_slot : text_of (with 4 1) (items reused_input) 2 ≡ codes "0 1 1 0 0 0\n"
+unfolding digits
+second_of_slot = refl
+
+-- a deleted query's rows are put until its life is passed, and a query is passed by its own stream's watermark
+abbrev two_streams : List ℕ
+two_streams = codes "create select from b\nrec b 5 1 0 0 0 0\nmark a 9\nrec b 6 1 0 0 0 0\ndelete 1\nrec b 7 1 0 0 0 0\nmark b 6\n"
+
+pub two_streams_answers : answered two_streams ≡ codes "1 created 1 at 0\n5 deleted 1 at 10\n"
+unfolding digits
+two_streams_answers = refl
+
+pub passed_by_its_own : held_at 1 two_streams ≡ codes "5 1 0 0 0 0\n"
+unfolding digits
+passed_by_its_own = refl
+
+pub after_deletion : held_in_the_end 1 two_streams ≡ codes "5 1 0 0 0 0\n6 1 0 0 0 0\n7 1 0 0 0 0\n"
+unfolding digits
+after_deletion = refl
+
+-- refusals in their order, over two streams
+abbrev order_input : List ℕ
+order_input = codes "create select form a\ncreate join a a tumble 5\ncreate count by all from a tumble 0\ndelete 9\ncreate\ncreate select from a where v1 <\ncreate select from d\nrec d 1 1 0 0 0 0\nend a\nmark a 5\nmark b 7\nmark b 6\n"
+
+pub order_answers : answers_for (with 2 64) order_input
+    ≡ codes "1 syntax 2\n2 twin\n3 window\n4 unknown\n5 syntax 1\n6 syntax 7\n7 stranger\n8 stranger\n10 ended\n12 back\n"
+unfolding digits
+order_answers = refl
+
+-- a selection with a bound
+pub bounded_output : held_at 1 (codes "create select from a where v1 > 4\nrec a 1 1 5 0 0 0\nrec a 2 1 4 0 0 0\nmark a 3\n") ≡ codes "1 1 5 0 0 0\n"
 unfolding digits
 bounded_output = refl
 
@@ -133,3 +176,24 @@ first_after = refl
 pub second_after : held_in_the_end 2 after_input ≡ []
 unfolding digits
 second_after = refl
+
+-- the words of `run`: both options, none, one that is out of its range, one given twice, one without its number, and none
+pub run_words : command_of (codes "run" ∷ codes "--slots" ∷ codes "1" ∷ codes "--streams" ∷ codes "2" ∷ []) ≡ Some (Run (with 2 1))
+unfolding digits
+run_words = refl
+
+pub run_alone : command_of (codes "run" ∷ []) ≡ Some (Run usual)
+unfolding digits
+run_alone = refl
+
+pub no_slots : command_of (codes "run" ∷ codes "--slots" ∷ codes "0" ∷ []) ≡ None
+unfolding digits
+no_slots = refl
+
+pub slots_twice : command_of (codes "run" ∷ codes "--slots" ∷ codes "4" ∷ codes "--slots" ∷ codes "4" ∷ []) ≡ None
+unfolding digits
+slots_twice = refl
+
+pub no_number : command_of (codes "run" ∷ codes "--lane=1" ∷ []) ≡ None
+unfolding digits
+no_number = refl

@@ -3,18 +3,28 @@ ghost use Rattle.std.specs.List.{list_all};
 ghost use Rattle.as_words.specs.Words.{is_word, joined};
 ghost use Rattle.astream_top.specs.Command.{are_text, text_of_words, run_with, command_of, IsExplanation};
 
-use as_base::{NoMemory, Text};
+use as_base::{Config, NoMemory, Text};
 use as_words::is_word;
+use options::{NumberOption, are_pairs, number};
 use std::alloc::Global;
 
 /// How many bytes a query text may have.
 const TEXT_MAX: usize = 4089;
 
+/// The options of `run`.
+const RUN_OPTIONS: [NumberOption; 2] = [NumberOption::Streams, NumberOption::Slots];
+
+/// Over how many parts the work is to be spread, once it is.
+const PARTS: u16 = 4;
+
+/// How many messages are to wait before each part at most.
+const LANE: u32 = 1024;
+
 /// What the words of a call ask for.
 #[derive(Debug, Drop)]
 pub enum Command {
-    /// The service, over the desk's input.
-    Run,
+    /// The service, over the desk's input, for this configuration.
+    Run(Config),
     /// The canonical form of a query text.
     Explain(Text),
 }
@@ -60,17 +70,24 @@ fn text_of_words(alloc: Global, words: &[String]) -> Result<Option<Text>, NoMemo
     Ok(Some(Text::from_vec(joined.into_bytes())))
 }
 
-// `run` takes no further word.
+// What `run` is configured for by its options, if they are well given.
 fn run_with(words: &[String]) -> Option<Command>
     ensures { result ≡ run_with (map string_bytes words.now) }
 {
-    match words {
-        [] => Some(Command::Run),
-        _ => None,
+    if !are_pairs(words, &RUN_OPTIONS) {
+        return None;
     }
+    let streams = number(words, NumberOption::Streams)?;
+    let slots = number(words, NumberOption::Slots)?;
+    Some(Command::Run(Config {
+        streams: streams as u8,
+        slots: slots as u16,
+        parts: PARTS,
+        lane: LANE,
+    }))
 }
 
-/// What the words ask for: the service for the one word `run`; an explanation for `explain` and the words of a query
+/// What the words ask for: the service for `run` and its options; an explanation for `explain` and the words of a query
 /// text, which may be empty. `None` for any other words. The one fault is `NoMemory`, which comes only for an explanation.
 pub fn command_of(alloc: Global, words: &[String]) -> Result<Option<Command>, NoMemory>
     ensures ok { IfOk result (λ command. command ≡ command_of (map string_bytes words.now)) }

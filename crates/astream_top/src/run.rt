@@ -73,9 +73,10 @@ fn take_bytes<E: QueryEngine, D: Desk>(
 // Processes the last line, which no line feed ends.
 fn take_last<E: QueryEngine, D: Desk>(run: &mut Run<E>, desk: &mut D) -> Result<(), Stop>
     requires { E.count run.old.processor.engine < 2 ^ 62 }
-    ensures { (c : Config) (bytes : List ℕ) (calls : List Entry) → HasTaken E.QueryEngine c run.old bytes calls →
+    ensures calls { (c : Config) (bytes : List ℕ) (calls : List Entry) → HasTaken E.QueryEngine c run.old bytes calls →
         Does (D.seen desk.old) (D.seen desk.new) (Goes result (λ more.
         HasProcessed E.QueryEngine c run.new.processor (items bytes) (calls ++ more))) }
+    ensures count { OnOk result (E.count run.new.processor.engine ≤ E.count run.old.processor.engine + 1) }
 {
     match run.cutter.finish()? {
         Some(item) => run.processor.process(desk, item),
@@ -85,7 +86,7 @@ fn take_last<E: QueryEngine, D: Desk>(run: &mut Run<E>, desk: &mut D) -> Result<
 
 // Processes the last line and the ends of the streams.
 fn end<E: QueryEngine, D: Desk>(run: &mut Run<E>, desk: &mut D) -> Result<(), Stop>
-    requires { E.count run.old.processor.engine < 2 ^ 62 }
+    requires { E.count run.old.processor.engine + 5 ≤ 2 ^ 62 }
     ensures { (c : Config) (bytes : List ℕ) (calls : List Entry) → HasTaken E.QueryEngine c run.old bytes calls →
         Does (D.seen desk.old) (D.seen desk.new) (Goes result (λ more.
         IsFinished c run.new.processor.lines (items bytes) (calls ++ more))) }

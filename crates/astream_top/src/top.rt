@@ -1,6 +1,7 @@
-ghost use Rattle.std.specs.Prelude.{◌≡◌, ◌<◌, ◌^◌, ◌↔◌, ℕ, List, Some, None, [], ◌∷◌, map, string_bytes};
+ghost use Rattle.std.specs.Prelude.{true, ◌≡◌, ◌<◌, ◌^◌, ◌↔◌, ℕ, List, Some, None, map, string_bytes};
 ghost use Rattle.as_outside.specs.Makes.{Does};
-ghost use Rattle.session.specs.Stage.{stage};
+ghost use Rattle.as_base.specs.Config.{fits};
+ghost use Rattle.as_base.specs.declared.config.Config.{Config};
 ghost use Rattle.astream_top.specs.Command.{command_of};
 ghost use Rattle.astream_top.specs.Explanation.{IsExplained};
 ghost use Rattle.astream_top.specs.declared.command.Command.{Command};
@@ -11,7 +12,7 @@ use crate::command::{Command, command_of};
 use crate::explain::explain;
 use crate::list_engine::ListEngine;
 use crate::run::{run_all, start};
-use as_base::{NoMemory, Numbers};
+use as_base::{Config, NoMemory, Numbers};
 use as_outside::{Desk, Gate, Report, Status};
 use service::Stop;
 use std::alloc::Global;
@@ -20,20 +21,21 @@ use std::thread::Threads;
 /// How many bytes of input a run takes at most: 2^40.
 pub const MAX_BYTES: u64 = 1_099_511_627_776;
 
-// A run over the desk that takes at most `limit` bytes.
+// A run over the desk for this configuration that takes at most `limit` bytes.
 #[tactic(auto, using(crate::proofs::CauseLaws::cut_short))]
-fn run_within<D: Desk>(alloc: Global, desk: &mut D, limit: u64) -> Report
-    requires { limit < 2 ^ 61 }
+fn run_within<D: Desk>(alloc: Global, desk: &mut D, config: Config, limit: u64) -> Report
+    requires small { limit < 2 ^ 61 }
+    requires fits { fits config ≡ true }
     ensures causes { IsCaused result.status result.broken (D.seen desk.old).faults (D.seen desk.new).faults }
-    ensures done { result.status ≡ Status.Done → Does (D.seen desk.old) (D.seen desk.new) (IsDone stage limit result.lines) }
+    ensures done { result.status ≡ Status.Done → Does (D.seen desk.old) (D.seen desk.new) (IsDone config limit result.lines) }
     ensures too_long { result.status ≡ Status.TooLong →
-        Does (D.seen desk.old) (D.seen desk.new) (IsTooLong stage limit result.lines) }
+        Does (D.seen desk.old) (D.seen desk.new) (IsTooLong config limit result.lines) }
     ensures read_fault { result.status ≡ Status.ReadFault →
-        Does (D.seen desk.old) (D.seen desk.new) (IsCutOff stage limit result.lines) }
-    ensures answer_fault { result.status ≡ Status.AnswerFault → Does (D.seen desk.old) (D.seen desk.new) (IsUnsaid stage) }
+        Does (D.seen desk.old) (D.seen desk.new) (IsCutOff config limit result.lines) }
+    ensures answer_fault { result.status ≡ Status.AnswerFault → Does (D.seen desk.old) (D.seen desk.new) (IsUnsaid config) }
     ensures output_broken { result.status ≡ Status.OutputBroken →
-        Does (D.seen desk.old) (D.seen desk.new) (IsBroken stage result.broken) }
-    ensures no_memory { result.status ≡ Status.NoMemory → Does (D.seen desk.old) (D.seen desk.new) (IsCutShort stage) }
+        Does (D.seen desk.old) (D.seen desk.new) (IsBroken config result.broken) }
+    ensures no_memory { result.status ≡ Status.NoMemory → Does (D.seen desk.old) (D.seen desk.new) (IsCutShort config) }
     ensures no_usage { result.status ≡ Status.Usage → ⊥ }
 {
     // Room for the number of an output that breaks is made first, so that reporting it takes no memory.
@@ -41,7 +43,11 @@ fn run_within<D: Desk>(alloc: Global, desk: &mut D, limit: u64) -> Report
         Ok(broken) => broken,
         Err(_) => return report(Status::NoMemory, 0, Vec::new(alloc)),
     };
-    let mut run = match start(alloc, ListEngine::new(alloc)) {
+    let engine = match ListEngine::new(alloc, config) {
+        Ok(engine) => engine,
+        Err(NoMemory) => return report(Status::NoMemory, 0, broken),
+    };
+    let mut run = match start(alloc, engine) {
         Ok(run) => run,
         Err(NoMemory) => return report(Status::NoMemory, 0, broken),
     };
@@ -71,7 +77,7 @@ fn report(status: Status, lines: u64, broken: Vec<u64>) -> Report
     }
 }
 
-/// Does what the words ask for over a desk. `run`: lines are pulled, answered, and queries' rows are put on their
+/// Does what the words ask for over a desk. `run` and its options, how many streams and how many slots: lines are pulled, answered, and queries' rows are put on their
 /// outputs, until the input ends. `explain` and the words of a query text: what it is over the four streams is said, its
 /// canonical text or the word that refuses it. Any other words are `Usage`, and touch nothing. The gate is not called
 /// yet.
@@ -81,7 +87,7 @@ fn report(status: Status, lines: u64, broken: Vec<u64>) -> Report
 /// the output whose call failed. `TooLong` comes where the byte after `MAX_BYTES` was pulled. `NoMemory` may always come.
 /// `JournalFault` never comes.
 /// Before each pull, all that was due for the lines pulled so far was out, whatever comes of the run.
-#[tactic(auto, using(crate::proofs::CauseLaws::cut_short))]
+#[tactic(auto, using(crate::proofs::CauseLaws::cut_short, crate::proofs::CommandLaws::run_fits))]
 pub fn astream<R: Threads + Sync, D: Desk, G: Gate>(
     _rt: &R,
     alloc: Global,
@@ -96,30 +102,31 @@ pub fn astream<R: Threads + Sync, D: Desk, G: Gate>(
     // Over every desk, also one that tells no call: a fault is reported where its count rose, and nowhere else.
     ensures causes { IsCaused result.status result.broken (D.seen desk.old).faults (D.seen desk.new).faults }
 
-    // A run that is done: the answers, the outputs and the last line are those of the whole input, and so is their
-    // promptness.
-    ensures done { command_of (map string_bytes words.now) ≡ Some Command.Run → result.status ≡ Status.Done →
-        Does (D.seen desk.old) (D.seen desk.new) (IsDone stage (2 ^ 40) result.lines) }
+    // A run that is done, for the configuration that its words ask for: the answers, the outputs and the last line are
+    // those of the whole input, and so is their promptness.
+    ensures done { (c : Config) → command_of (map string_bytes words.now) ≡ Some (Command.Run c) → result.status ≡ Status.Done →
+        Does (D.seen desk.old) (D.seen desk.new) (IsDone c (2 ^ 40) result.lines) }
 
     // Every other stop of a run has its cause, and is the last of the calls.
-    ensures read_fault { result.status ≡ Status.ReadFault →
-        Does (D.seen desk.old) (D.seen desk.new) (IsCutOff stage (2 ^ 40) result.lines) }
-    ensures answer_fault { command_of (map string_bytes words.now) ≡ Some Command.Run → result.status ≡ Status.AnswerFault →
-        Does (D.seen desk.old) (D.seen desk.new) (IsUnsaid stage) }
-    ensures output_broken { result.status ≡ Status.OutputBroken →
-        Does (D.seen desk.old) (D.seen desk.new) (IsBroken stage result.broken) }
-    ensures too_long { result.status ≡ Status.TooLong →
-        Does (D.seen desk.old) (D.seen desk.new) (IsTooLong stage (2 ^ 40) result.lines) }
+    ensures read_fault { (c : Config) → command_of (map string_bytes words.now) ≡ Some (Command.Run c) →
+        result.status ≡ Status.ReadFault → Does (D.seen desk.old) (D.seen desk.new) (IsCutOff c (2 ^ 40) result.lines) }
+    ensures answer_fault { (c : Config) → command_of (map string_bytes words.now) ≡ Some (Command.Run c) →
+        result.status ≡ Status.AnswerFault → Does (D.seen desk.old) (D.seen desk.new) (IsUnsaid c) }
+    ensures output_broken { (c : Config) → command_of (map string_bytes words.now) ≡ Some (Command.Run c) →
+        result.status ≡ Status.OutputBroken → Does (D.seen desk.old) (D.seen desk.new) (IsBroken c result.broken) }
+    ensures too_long { (c : Config) → command_of (map string_bytes words.now) ≡ Some (Command.Run c) →
+        result.status ≡ Status.TooLong → Does (D.seen desk.old) (D.seen desk.new) (IsTooLong c (2 ^ 40) result.lines) }
 
     // Want of memory is the one free answer.
-    ensures no_memory { result.status ≡ Status.NoMemory → Does (D.seen desk.old) (D.seen desk.new) (IsCutShort stage) }
+    ensures no_memory { (c : Config) → command_of (map string_bytes words.now) ≡ Some (Command.Run c) →
+        result.status ≡ Status.NoMemory → Does (D.seen desk.old) (D.seen desk.new) (IsCutShort c) }
 
     // An explanation is one say, and takes no line.
     ensures explained { (text : List ℕ) → command_of (map string_bytes words.now) ≡ Some (Command.Explain text) →
         Does (D.seen desk.old) (D.seen desk.new) (IsExplained text result.status) × (result.lines ≡ 0) }
 {
     match command_of(alloc, words) {
-        Ok(Some(Command::Run)) => run_within(alloc, desk, MAX_BYTES),
+        Ok(Some(Command::Run(config))) => run_within(alloc, desk, config, MAX_BYTES),
         Ok(Some(Command::Explain(text))) => {
             let status = explain(alloc, desk, &text);
             report(status, 0, Vec::new(alloc))

@@ -1,5 +1,5 @@
 -- The text of a row, and of the rows that are due to a query.
-use Rattle.std.specs.Prelude.{ℕ, ℤ, Option, Some, None, List, [], ◌∷◌, ◌++◌, map, codes, decimal}
+use Rattle.std.specs.Prelude.{ℕ, ℤ, Option, Some, None, ◌==◌, if◌then◌else◌, List, [], ◌∷◌, ◌++◌, map, codes, decimal}
 use Rattle.std.specs.Fmt.{signed_decimal}
 use Rattle.std.specs.List.{flat_map}
 use Rattle.as_words.specs.Words.{joined}
@@ -33,3 +33,7 @@ row_text row = joined (row_words row) ++ codes "\n"
 -- The text of the rows that are due to a query.
 abbrev pub text : View → Query → List ℕ
 text v q = flat_map row_text (due_rows v q)
+
+-- The text that the output of query n has by a view; nothing where the view has no such query.
+abbrev pub text_of : View → ℕ → List ℕ
+text_of v n = flat_map (λ (q : Query). if q.n == n then text v q else []) v.queries

@@ -15,7 +15,6 @@ use Rattle.as_outside.specs.Outputs.{AreOutputs}
 use Rattle.as_outside.proofs.LogLaws.{said-append, begins-append, puts-append, held-append, held_from-append, begins-cons, puts-cons}
 use Rattle.as_outside.proofs.FailureLaws.{IsFaultless-append, failures-append, say_failures-append, failed_on-none, say_failed_by-none, none_counted}
 use Rattle.as_outside.proofs.OutputLaws.{EndsAtFailure-from_none}
-use Rattle.session.specs.Stage.{taken}
 use Rattle.session.specs.Book.{numbers}
 use Rattle.session.specs.View.{text_of}
 use Rattle.session.specs.Outcome.{bytes_for, Adds}
@@ -221,7 +220,7 @@ outputs-step c h h' log queries pieces bytes before unbroken adds =
 
 -- What is due for the items becomes what is due for the items after.
 pub due-step : (c : Config) (h h' : List Item) (log : List Entry) (queries : List ℕ) (pieces : List Piece) (bytes : List ℕ)
-    → IsDue c h log → ((n : ℕ) → failures n log ≡ 0) → Adds c (taken c h) (taken c h') queries pieces
+    → IsDue c h log → ((n : ℕ) → failures n log ≡ 0) → Adds c h h' queries pieces
     → answers_text c h' ≡ answers_text c h ++ bytes
     → IsDue c h' (log ++ calls_of queries pieces bytes)
 due-step c h h' log queries pieces bytes before unbroken adds answers =
@@ -229,5 +228,5 @@ due-step c h h' log queries pieces bytes before unbroken adds answers =
       answers = said-append log (calls_of queries pieces bytes) ∙ ap (λ t. t ++ said (calls_of queries pieces bytes)) before.answers
           ∙ ap (λ t. answers_text c h ++ t) (said-calls_of queries pieces bytes) ∙ sym answers;
       no_say_failed = omega (arith, say_failures-append log (calls_of queries pieces bytes), before.no_say_failed, none_counted say_failed_by say_failed_by-none (calls_of queries pieces bytes) (faultless-calls_of queries pieces bytes));
-      outputs = outputs-step c (taken c h) (taken c h') log queries pieces bytes before.outputs unbroken adds;
+      outputs = outputs-step c h h' log queries pieces bytes before.outputs unbroken adds;
     }

@@ -1,5 +1,5 @@
 -- Calls one after another, up to the one that stopped the run.
-use Rattle.std.proofs.Common.{◌≡◌, ℕ, Result, Ok, Err, List, [], ◌∷◌, ◌++◌, refl, ap, ◌∙◌, inl, inr, ⊎_elim, IsErrAnd, subst, Continue}
+use Rattle.std.proofs.Common.{◌≡◌, ℕ, Result, Ok, Err, List, [], ◌∷◌, ◌++◌, refl, ap, ◌∙◌, inl, inr, ⊎_elim, IsErrAnd, subst, Continue, append_assoc}
 use Rattle.std.specs.Result.{result_from_control_flow}
 use Rattle.std.proofs.lemmas.Result.{err_from_is_err_and}
 use Rattle.as_outside.specs.declared.entry.Entry.{Entry}
@@ -61,6 +61,13 @@ goes_well a b c P Q R first second join = goes_after {X = Unit {0}} a b c (Ok tt
 pub goes_well_then : (a b c : Seen) (P R : List Entry → Type 0) (first : Does a b (λ calls. IsQuiet calls × P calls))
     → Does b c (λ ys. IsQuiet ys × R (first.calls ++ ys)) → Does a c (λ calls. IsQuiet calls × R calls)
 goes_well_then a b c P R first second = goes_then {X = Unit {0}} a b c (Ok tt) P R first second
+
+-- The same where the meaning is of all calls, those before included: what the first made true is where the second begins.
+pub goes_on : {X : Type 0} (a b c : Seen) (r : Result X Stop) (P R : List Entry → Type 0) (calls : List Entry) → Does a b (λ xs. IsQuiet xs × P (calls ++ xs))
+    → ((all : List Entry) → P all → Does b c (Goes r (λ ys. R (all ++ ys)))) → Does a c (Goes r (λ zs. R (calls ++ zs)))
+goes_on a b c r P R calls first second =
+    goes_then a b c r (λ xs. P (calls ++ xs)) (λ zs. R (calls ++ zs)) first
+    (goes_weaker b c r (λ ys. R ((calls ++ first.calls) ++ ys)) (λ ys. R (calls ++ (first.calls ++ ys))) (λ ys holds. subst R (append_assoc calls first.calls ys) holds) (second (calls ++ first.calls) first.holds.1))
 
 -- the exit of a first `?`
 pub goes_out : {X : Type 0} (a b : Seen) (r : Result X Stop) (s : Stop) (R : List Entry → Type 0) → IsErrAnd r (λ y. y ≡ s)

@@ -6,7 +6,6 @@ use Rattle.as_outside.specs.declared.entry.Entry.{Entry}
 use Rattle.as_outside.specs.Log.{said}
 use Rattle.as_outside.specs.Failures.{say_failures}
 use Rattle.as_outside.specs.Outputs.{AreOutputs}
-use Rattle.session.specs.Stage.{taken}
 use Rattle.session.specs.Book.{numbers}
 use Rattle.session.specs.View.{text_of}
 use Rattle.service.specs.AnswerText.{answers_text}
@@ -15,4 +14,4 @@ use Rattle.service.specs.AnswerText.{answers_text}
 pub record IsDue (c : Config) (h : List Item) (log : List Entry) : Type 0 where
   pub answers : said log ≡ answers_text c h
   pub no_say_failed : say_failures log ≡ 0
-  pub outputs : AreOutputs (numbers c (taken c h)) (text_of c (taken c h)) log
+  pub outputs : AreOutputs (numbers c h) (text_of c h) log

@@ -9,5 +9,4 @@ pub use Rattle.as_outside.specs.Outputs
 pub use Rattle.as_outside.specs.Failures
 pub use Rattle.session.specs.Outcome
 pub use Rattle.session.specs.Acceptance
-pub use Rattle.session.specs.Stage
 pub use Rattle.session.specs.Shut

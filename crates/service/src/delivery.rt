@@ -55,18 +55,18 @@ fn put<S: Shelf>(shelf: &mut S, piece: &Piece) -> Result<(), Stop>
     }
 }
 
-/// Puts the pieces on their outputs, and then says the text.
+// Puts the pieces on their outputs, and then says the text.
 #[tactic(auto, using(crate::proofs::GoesLaws::goes_out))]
-pub fn put_and_say<S: Shelf>(shelf: &mut S, pieces: &[Piece], text: &[u8]) -> Result<(), Stop>
+fn put_and_say<S: Shelf>(shelf: &mut S, pieces: &[Piece], text: &[u8]) -> Result<(), Stop>
     ensures { Does (S.seen shelf.old) (S.seen shelf.new) (Goes result (◌≡◌ (puts_of pieces.now ++ says_of text.now))) }
 {
     put_all(shelf, pieces)?;
     say(shelf, text)
 }
 
-// Puts the pieces on their outputs, in their order.
+/// Puts the pieces on their outputs, in their order.
 #[tactic(auto, using(crate::proofs::GoesLaws::nothing_done))]
-fn put_all<S: Shelf>(shelf: &mut S, pieces: &[Piece]) -> Result<(), Stop>
+pub fn put_all<S: Shelf>(shelf: &mut S, pieces: &[Piece]) -> Result<(), Stop>
     ensures { Does (S.seen shelf.old) (S.seen shelf.new) (Goes result (◌≡◌ (puts_of pieces.now))) }
 {
     for piece in pieces {
@@ -75,9 +75,9 @@ fn put_all<S: Shelf>(shelf: &mut S, pieces: &[Piece]) -> Result<(), Stop>
     Ok(())
 }
 
-// Says the text, if there is any.
+/// Says the text, if there is any.
 #[tactic(auto, using(crate::proofs::GoesLaws::say_stops, crate::proofs::GoesLaws::nothing_done))]
-fn say<S: Shelf>(shelf: &mut S, text: &[u8]) -> Result<(), Stop>
+pub fn say<S: Shelf>(shelf: &mut S, text: &[u8]) -> Result<(), Stop>
     ensures { Does (S.seen shelf.old) (S.seen shelf.new) (Goes result (◌≡◌ (says_of text.now))) }
 {
     if text.is_empty() {

@@ -2,12 +2,10 @@ ghost use Rattle.std.specs.Prelude.{◌≡◌, ◌<◌, ◌+◌, ◌++◌, ◌^�
 ghost use Rattle.as_base.specs.declared.config.Config.{Config};
 ghost use Rattle.as_base.specs.declared.item.Item.{Item};
 ghost use Rattle.as_base.specs.Range.{InRange};
-ghost use Rattle.session.specs.Stage.{taken};
-ghost use Rattle.session.specs.Acceptance.{has_ended};
-ghost use Rattle.session.specs.Shut.{shut};
-ghost use Rattle.session.specs.Outcome.{Adds, IsFed, ArePieces};
+ghost use Rattle.session.specs.Acceptance.{is_open};
+ghost use Rattle.session.specs.Outcome.{IsFed, ArePieces};
 
-use as_base::{Fed, Item, NoMemory, Pieces, StreamId};
+use as_base::{Fed, Item, NoMemory, StreamId};
 
 /// What decides items: the answer to each, and the pieces of text that it makes due on the outputs of queries.
 ///
@@ -38,23 +36,10 @@ pub trait QueryEngine {
         ensures count { OnOk result (count self.new ≡ count self.old + 1) }
         ensures config { config self.new ≡ config self.old };
 
-    /// The pieces that the ends of the streams that have not ended make due.
-    ///
-    /// `due`: for any items that it stands for, the pieces have the whole text that these ends make due, and no query is
-    /// created. `order`: they stand by rising query number, and none is empty. `kept`: it stands for the same items as
-    /// before. `count`, `config`: both stay, also after a refusal.
-    fn finish(&mut self) -> Result<Pieces, NoMemory>
-        ensures due { (h : List Item) → stands self.old h → IfOk result (λ pieces.
-            let before = taken (config self.old) h in Adds (config self.old) before (shut (config self.old) before) [] pieces) }
-        ensures order { IfOk result ArePieces }
-        ensures kept { (h : List Item) → stands self.old h → IfOk result (λ _. stands self.new h) }
-        ensures count { count self.new ≡ count self.old }
-        ensures config { config self.new ≡ config self.old };
-
-    /// Whether an end of the stream was accepted: for any items that it stands for, just where one was.
-    fn ended(&self, stream: StreamId) -> bool
-        ensures { (h : List Item) → stands self.now h →
-            result ≡ has_ended (config self.now) (taken (config self.now) h) stream };
+    /// Whether an end of the stream would be accepted, for any items that it stands for: the stream is configured and has
+    /// not ended.
+    fn is_open(&self, stream: StreamId) -> bool
+        ensures { (h : List Item) → stands self.now h → result ≡ is_open (config self.now) h stream };
 
     /// How many items it has taken: its count (`value`), and the length of any items that it stands for (`stands`).
     fn items(&self) -> u64

@@ -1,17 +1,18 @@
-ghost use Rattle.std.specs.Prelude.{◌≡◌, ◌<◌, ◌+◌, ◌++◌, ◌^◌, [], ◌∷◌, List, IfOk, OnOk};
+ghost use Rattle.std.specs.Prelude.{◌≡◌, ◌<◌, ◌≤◌, ◌+◌, ◌++◌, ◌^◌, [], ◌∷◌, ℕ, List, IfOk, OnOk};
 ghost use Rattle.as_base.specs.declared.config.Config.{Config};
 ghost use Rattle.as_base.specs.declared.item.Item.{Item};
 ghost use Rattle.as_base.specs.Range.{InRange};
 ghost use Rattle.as_outside.specs.declared.entry.Entry.{Entry};
 ghost use Rattle.as_outside.specs.Makes.{Does};
 ghost use Rattle.service.specs.AnswerText.{done_text};
-ghost use Rattle.service.specs.Processor.{HasProcessed, HasPrepared, IsFinished};
+ghost use Rattle.service.specs.Processor.{HasTaken, HasProcessed, HasPrepared, IsFinished};
+ghost use Rattle.session.specs.Shut.{end_of, shut};
 ghost use Rattle.service.specs.Stop.{Goes};
 
-use crate::delivery::{deliver, put_and_say};
+use crate::delivery::{deliver, put_all, say};
 use crate::engine::QueryEngine;
 use crate::stop::Stop;
-use as_base::{Fed, Item, NoMemory};
+use as_base::{Fed, Item, NoMemory, StreamId};
 use as_lineform::answer_text;
 use as_outside::Shelf;
 use as_words::append_spaced_decimal;
@@ -74,17 +75,46 @@ impl<E: QueryEngine> Processor<E> {
         deliver(shelf, &fed, &self.text)
     }
 
-    /// Ends the streams: puts the pieces that this makes due, and says the last line. It stops at the first call that
-    /// fails, and at want of memory before any call.
+    // Ends a stream, if it is open, and puts the pieces that this makes due.
+    fn end<S: Shelf>(&mut self, shelf: &mut S, stream: StreamId) -> Result<(), Stop>
+        requires { E.count self.old.engine < 2 ^ 62 }
+        ensures calls { (c : Config) (lines : ℕ) (h : List Item) (calls : List Entry) → HasTaken E.QueryEngine c self.old lines h calls →
+            Does (S.seen shelf.old) (S.seen shelf.new) (Goes result (λ more.
+            HasTaken E.QueryEngine c self.new lines (h ++ end_of c h stream) (calls ++ more))) }
+        ensures count { OnOk result (E.count self.new.engine ≤ E.count self.old.engine + 1) }
+    {
+        if !self.engine.is_open(stream) {
+            return Ok(());
+        }
+        let fed = self.engine.feed(Item::End(stream))?;
+        put_all(shelf, fed.pieces.as_slice())
+    }
+
+    // Ends the streams that are open, in order, and puts the pieces that this makes due.
+    fn end_all<S: Shelf>(&mut self, shelf: &mut S) -> Result<(), Stop>
+        requires { E.count self.old.engine + 4 ≤ 2 ^ 62 }
+        ensures { (c : Config) (lines : ℕ) (h : List Item) (calls : List Entry) → HasTaken E.QueryEngine c self.old lines h calls →
+            Does (S.seen shelf.old) (S.seen shelf.new) (Goes result (λ more.
+            HasTaken E.QueryEngine c self.new lines (shut c h) (calls ++ more))) }
+    {
+        self.end(shelf, StreamId::A)?;
+        self.end(shelf, StreamId::B)?;
+        self.end(shelf, StreamId::C)?;
+        self.end(shelf, StreamId::D)
+    }
+
+    /// Ends the streams that are open, in order, puts the pieces that this makes due, and says the last line. It stops at
+    /// the first call that fails, and at want of memory before the calls that it is for.
     pub fn finish<S: Shelf>(&mut self, shelf: &mut S) -> Result<(), Stop>
+        requires { E.count self.old.engine + 4 ≤ 2 ^ 62 }
         ensures { (c : Config) (h : List Item) (calls : List Entry) → HasProcessed E.QueryEngine c self.old h calls →
             Does (S.seen shelf.old) (S.seen shelf.new) (Goes result (λ more.
             IsFinished c self.new.lines h (calls ++ more))) }
     {
-        let pieces = self.engine.finish()?;
+        self.end_all(shelf)?;
         self.text.clear();
         append_done(self.lines, &mut self.text)?;
-        put_and_say(shelf, pieces.as_slice(), &self.text)
+        say(shelf, &self.text)
     }
 }
 

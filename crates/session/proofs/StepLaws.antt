@@ -1,441 +1,365 @@
--- What each item does to what a session stands for, and what it adds.
-use Rattle.std.proofs.Common.{◌≡◌, ℕ, ◌+◌, ◌^◌, ◌≤◌, ◌<◌, ◌||◌, ◌&&◌, max, nat_lt, eqb, Bool, true, false, true≢false, not, cond, Result, Ok, Err, Option, Some, None, is_none, List, [], ◌∷◌, ◌++◌, map, length, refl, sym, ap, ap₂, subst, ◌∙◌, append-nil, arith}
-use Rattle.std.specs.List.{AllByRecursion}
-use Rattle.std.proofs.lemmas.Bool.{and_parts, lt-ltb, le-ltb}
-use Rattle.std.proofs.lemmas.Bool.Decides.{nat_tests}
-use Rattle.std.proofs.lemmas.Grind.{flat_map-append}
-use Rattle.std.proofs.lemmas.Simd.{map-map}
-use Rattle.std.proofs.lemmas.List.{length_push, length-map, map-append}
+-- What each item does to what a session stands for, and what is decided of it.
+use Rattle.std.proofs.Common.{◌≡◌, ℕ, ◌+◌, ◌^◌, ◌<◌, max, ◌||◌, nat_lt, eqb, Bool, true, false, true≢false, not, cond, ⊎_elim, Result, Ok, Err, Some, None, is_none, unwrap_or, List, [], ◌∷◌, ◌++◌, map, length, get_or, set, replicate, refl, sym, ap, ap₂, ◌∙◌, arith}
+use Rattle.std.specs.List.{flat_map, list_any, position, position_or_len, remove}
+use Rattle.std.proofs.lemmas.Bool.{ltb-true, ltb-false, lt-ltb, le-ltb}
+use Rattle.std.proofs.lemmas.List.{length_push, length-map}
+use Rattle.as_base.specs.declared.config.Config.{Config}
 use Rattle.as_base.specs.declared.stream.StreamId.{StreamId}
 use Rattle.as_base.specs.declared.stream.StreamId.TheVariants.{A, B, C, D}
 use Rattle.as_base.specs.declared.item.Given.{Given}
-use Rattle.as_base.specs.declared.item.Record.{Record}
 use Rattle.as_base.specs.declared.item.Item.{Item}
-use Rattle.as_base.specs.declared.item.Item.TheVariants.{Rec, Mark, End, Create, Bad}
+use Rattle.as_base.specs.declared.item.Item.TheVariants.{Rec, Mark, End, Create, Delete, Bad}
 use Rattle.as_base.specs.declared.item.Cause.{Cause}
-use Rattle.as_base.specs.declared.item.Cause.TheVariants.{Long, Form}
-use Rattle.as_base.specs.declared.answer.Word.{Word}
-use Rattle.as_base.specs.declared.answer.Word.TheVariants.{Created, Late, Back, Full, Later}
-use Rattle.as_base.specs.declared.answer.Answer.{Answer}
-use Rattle.as_base.specs.declared.answer.Piece.{Piece}
-use Rattle.as_base.specs.Stream.{place_of}
-use Rattle.as_base.specs.Times.{times}
-use Rattle.session.specs.declared.session.Live.{Live}
-use Rattle.session.specs.Stage.{stage, plan_for}
-use Rattle.session.specs.Acceptance.{is_on, has_ended, top_mark, changelog_time}
-use Rattle.views.specs.Query.{Query}
-use Rattle.views.specs.Order.{comes_before, InOrder}
-use Rattle.session.specs.Book.{book, numbers, refusal, refusal_of_cause, creation_refusal, book_after, has_slot, opened}
 use Rattle.as_base.specs.declared.query.Plan.{Plan}
-use Rattle.query_text.specs.declared.ast.Ast.{Ast}
-use Rattle.query_text.specs.Reading.{read_text}
-use Rattle.query_plan.specs.declared.planning.Misfit.{Misfit}
-use Rattle.query_plan.specs.Planning.{plan, or_word, plan_of_reading}
-use Rattle.session.specs.Selection.{is_select, is_plan_built, built, unplanned}
-use Rattle.session.specs.Shut.{shut}
-use Rattle.session.specs.Answers.{answer_by_rule, answered, or_else, acceptance_word}
-use Rattle.session.specs.View.{records, record_of, text_of}
-use Rattle.session.specs.Outcome.{bytes_for, created_by, Adds, IsStep}
-use Rattle.session.specs.Kept.{wants, is_wanted, rows_for, below, NeverFalls, pieces_of, kept_with, IsCut}
-use Rattle.session.specs.Session.{query_of, ReadsA, accepted, IsReached, IsPast, Sees, Clock, Stands}
-use Rattle.session.proofs.ClockLaws.{Clock-push, Clock-other, ended-by, refusal-Rec, refusal-Mark}
-use Rattle.session.proofs.ListLaws.{All-by, All-push, All-both, All-none, All-every, All-rest, flat_map-same, cond_same}
-use Rattle.session.proofs.KeptLaws.{rows_below-push, Sees-push, Sees-skip, rows-passed, Sees-cut, NeverFalls-push, NeverFalls-rest, after-mark, late-all, Sees-new}
-use Rattle.session.proofs.TextLaws.{IsTimely, InOrder-push, text_of-is}
-use Rattle.session.proofs.BookLaws.{book-push, records-push, has_slot-is}
-use Rattle.session.proofs.NumberLaws.{IsNumbered, of_number, of_number-both, bytes_for-pieces, pieces-known, times-above, times-one}
+use Rattle.as_base.specs.declared.answer.Word.{Word}
+use Rattle.as_base.specs.declared.answer.Word.TheVariants as word
+use Rattle.as_base.specs.declared.message.Change.TheVariants.{Opened, Closed}
+use Rattle.as_base.specs.declared.message.Msg.TheVariants as msg
+use Rattle.as_base.specs.Stream.{place_of}
+use Rattle.slot_alloc.specs.Slots.{live_count}
+use Rattle.slot_alloc.proofs.SlotLaws.{live_count-full, live_count-lt}
+use Rattle.views.specs.Query.{opened, is_live}
+use Rattle.views.proofs.ListLaws.{cond_same}
+use Rattle.session.specs.declared.session.Clock.{Clock}
+use Rattle.session.specs.declared.session.Seat.{Seat}
+use Rattle.session.specs.declared.session.Session.{Session}
+use Rattle.session.specs.declared.decision.Decision.TheVariants.{Pass, Told, Acted}
+use Rattle.session.specs.Acceptance.{front, top_mark, has_ended, changelog_time, seen_on, greatest, tick_after}
+use Rattle.session.specs.Planned.{plan_for, is_select, built, unplanned}
+use Rattle.session.specs.Book.{book, has_slot, refusal, refusal_of_cause, creation_refusal}
+use Rattle.session.specs.Holders.{Holder, queries_of, slots_of, least_free, with_holder, closed_holder, holders}
+use Rattle.session.specs.Decision.{IsDecided}
+use Rattle.session.specs.Message.{opening}
+use Rattle.session.specs.Session.{seat_of, StandsFor}
+use Rattle.session.proofs.ClockLaws.{clocks_of, clocks-are, IsStill, still-low, still-closed, still-all, still-quiet, clocks-still, changelog-still, clocks-counted, changelog-counted, top_mark-front, front-seen, counting-none, clock-none}
+use Rattle.session.proofs.DecisionLaws.{told, passed, acted, refused-why, accepted-open}
+use Rattle.session.proofs.HolderLaws.{holders-push, holders-queries, holders-seated, seats_of, seats-push, seats-gone, slots_of-opened, slots_of-closed, has_slot-seats, slots_of-none, length-slots_of, numbers-once, slot_of-seats, lives-seats}
+use Rattle.session.proofs.SeatLaws.{position-some, position-none, list_any-position, slot_in-at}
 
--- ---- the text of the outputs
+-- what a session stands for, by its parts
+pub record Stands (c : Config) (h : List Item) (streams items : ℕ) (clocks : List Clock) (changelog made : ℕ) (slots : List Bool) (live : List Seat) : Type 0 where
+  pub configured : streams ≡ c.streams
+  pub lines : items ≡ length h
+  pub clocks_are : clocks ≡ clocks_of c h
+  pub time_is : changelog ≡ changelog_time c h
+  pub made_is : made ≡ length (book c h)
+  pub slots_are : slots ≡ slots_of c (holders c h)
+  pub live_are : live ≡ flat_map seat_of (holders c h)
 
-pub text_of-stands : {h : List Item} {count top mark changelog : ℕ} {queries : List Live} {kept : List Given} → Stands h count top mark changelog queries kept → (n : ℕ) → text_of stage h n ≡ of_number n (λ (q : Live). rows_for q (below mark (accepted h))) queries
-text_of-stands {h} {count} {top} {mark} {changelog} {queries} s n =
-    text_of-is h mark queries n s.book_is s.selects s.ordered
-    (All-by (IsPast count top changelog) IsTimely (λ r p. (p.stream, let a = p.past in let b = s.clock.ends in omega (arith, a, b))) (records stage h) s.past)
-    (ap (λ b. cond b (2 ^ 62) (top_mark stage h A)) s.clock.going ∙ s.clock.mark_is)
+pub stands-in : {c : Config} {s : Session} {h : List Item} → StandsFor c s h → Stands c h s.streams s.items s.clocks s.changelog_time s.made s.slots s.live.items
+stands-in s = record { configured = s.configured; lines = s.items; clocks_are = s.clocks; time_is = s.changelog_time; made_is = s.made; slots_are = s.slots; live_are = s.live }
 
--- ---- a step
+pub stands-out : (c : Config) (s : Session) (h : List Item) → Stands c h s.streams s.items s.clocks s.changelog_time s.made s.slots s.live.items → StandsFor c s h
+stands-out c s h p = record { configured = p.configured; items = p.lines; clocks = p.clocks_are; changelog_time = p.time_is; made = p.made_is; slots = p.slots_are; live = p.live_are }
 
--- the answer to the item after the first `count`
-abbrev pub answer_at : ℕ → Word → Option Answer
-answer_at count w = Some (record { line = count + 1; word = w })
+-- the book is as it was where the holders are
+same-book : (c : Config) (h h' : List Item) → holders c h' ≡ holders c h → length (book c h') ≡ length (book c h)
+same-book c h h' e = ap length (sym (holders-queries c h') ∙ ap queries_of e ∙ holders-queries c h)
 
-refused-answer : (h : List Item) (x : Item) (w : Word) (count : ℕ) → count ≡ length h → refusal stage h x ≡ Some w → answer_at count w ≡ answer_by_rule stage h x
-refused-answer h x w count e r = ap (λ n. answer_at n w) e ∙ sym (ap (λ o. answered h (or_else o (acceptance_word stage h x))) r)
-
-Adds-none : (h h' : List Item) → book stage h' ≡ book stage h → ((n : ℕ) → text_of stage h' n ≡ text_of stage h n) → Adds stage h h' [] []
-Adds-none h h' same texts = record {
-  book = ap (map (λ (q : Query). q.n)) same ∙ sym (append-nil (numbers stage h));
-  fresh = λ n some. absurd (omega (arith, some));
-  text = λ n. texts n ∙ sym (append-nil (text_of stage h n));
-  known = tt;
-}
-
--- the numbers of the queries of a session
-numbers-are : (h : List Item) (queries : List Live) → book stage h ≡ map query_of queries → numbers stage h ≡ map (λ (q : Live). q.n) queries
-numbers-are h queries e = ap (map (λ (q : Query). q.n)) e ∙ map-map (λ (q : Query). q.n) query_of queries
-
-Adds-pieces : (h h' : List Item) (queries : List Live) (passed : List Given) → book stage h' ≡ book stage h → book stage h ≡ map query_of queries
-    → ((n : ℕ) → text_of stage h' n ≡ text_of stage h n ++ bytes_for n (pieces_of queries passed)) → Adds stage h h' [] (pieces_of queries passed)
-Adds-pieces h h' queries passed same living texts = record {
-  book = ap (map (λ (q : Query). q.n)) same ∙ sym (append-nil (numbers stage h));
-  fresh = λ n some. absurd (omega (arith, some));
-  text = texts;
-  known = subst (λ l. AllByRecursion (λ (p : Piece). 0 < times p.n l) (pieces_of queries passed)) (sym (numbers-are h' queries (same ∙ living))) (pieces-known (λ q. rows_for q passed) queries);
-}
-
-Clock-at : {h : List Item} {t t' m m' k k' : ℕ} → Clock h t m k → t ≡ t' → m ≡ m' → k ≡ k' → Clock h t' m' k'
-Clock-at {h} {t} {t'} {m} {m'} {k} {k'} c p q r = subst (λ t. Clock h t m' k') p (subst (λ m. Clock h t m k') q (subst (λ k. Clock h t m k) r c))
-
-IsPast-later : {count count' top top' changelog changelog' : ℕ} (r : Record) → count ≤ count' → top ≤ top' → changelog ≤ changelog' → IsPast count top changelog r → IsPast count' top' changelog' r
-IsPast-later r a b c p = record {
-  stream = p.stream;
-  line = let h = p.line in omega (arith, h, a);
-  reached = let h = p.reached in omega (arith, h, b);
-  past = let h = p.past in omega (arith, h, c);
-}
-
-accepted-same : (h h' : List Item) → records stage h' ≡ records stage h → accepted h' ≡ accepted h
-accepted-same h h' e = ap (map (λ (r : Record). r.given)) e
-
--- an item after which the clock, the book and the records are the same
-Stands-same : (h : List Item) (x : Item) (count top mark changelog : ℕ) (queries : List Live) (kept : List Given) → Stands h count top mark changelog queries kept
-    → Clock (h ++ x ∷ []) top mark changelog → book stage (h ++ x ∷ []) ≡ book stage h → records stage (h ++ x ∷ []) ≡ records stage h
-    → Stands (h ++ x ∷ []) (count + 1) top mark changelog queries kept
-Stands-same h x count top mark changelog queries kept s clock b r = record {
+-- an item that changes no query
+Stands-items : {c : Config} {h : List Item} {streams items : ℕ} {clocks : List Clock} {changelog made : ℕ} {slots : List Bool} {live : List Seat} (x : Item) (clocks' : List Clock) (changelog' : ℕ) → Stands c h streams items clocks changelog made slots live
+    → clocks' ≡ clocks_of c (h ++ x ∷ []) → changelog' ≡ changelog_time c (h ++ x ∷ []) → holders c (h ++ x ∷ []) ≡ holders c h
+    → Stands c (h ++ x ∷ []) streams (items + 1) clocks' changelog' made slots live
+Stands-items {c} {h} x clocks' changelog' s k t e = record {
+  configured = s.configured;
   lines = ap (λ n. n + 1) s.lines ∙ sym (length_push h x);
-  clock = clock;
-  book_is = b ∙ s.book_is;
-  past = subst (λ l. AllByRecursion (IsPast (count + 1) top changelog) l) (sym r)
-      (All-by (IsPast count top changelog) (IsPast (count + 1) top changelog) (λ t p. IsPast-later t (omega arith) (omega arith) (omega arith) p) (records stage h) s.past);
-  ordered = subst InOrder (sym r) s.ordered;
-  reached = s.reached;
-  rising = s.rising;
-  sees = subst (λ l. AllByRecursion (Sees l mark kept) queries) (sym (accepted-same h (h ++ x ∷ []) r)) s.sees;
-  selects = s.selects;
+  clocks_are = k;
+  time_is = t;
+  made_is = s.made_is ∙ sym (same-book c h (h ++ x ∷ []) e);
+  slots_are = s.slots_are ∙ ap (slots_of c) (sym e);
+  live_are = s.live_are ∙ ap seats_of (sym e);
 }
 
-refused-step : (h : List Item) (x : Item) (w : Word) (count top mark changelog : ℕ) (queries : List Live) (kept : List Given) → Stands h count top mark changelog queries kept
-    → Clock (h ++ x ∷ []) top mark changelog → book stage (h ++ x ∷ []) ≡ book stage h → records stage (h ++ x ∷ []) ≡ records stage h
-    → refusal stage h x ≡ Some w → created_by w ≡ []
-    → Stands (h ++ x ∷ []) (count + 1) top mark changelog queries kept × IsStep stage h x (record { answer = answer_at count w; pieces = [] })
-refused-step h x w count top mark changelog queries kept s clock b r refuse word =
-    let next = Stands-same h x count top mark changelog queries kept s clock b r in (
-      next,
-      record {
-        answer = refused-answer h x w count s.lines refuse;
-        adds = subst (λ l. Adds stage h (h ++ x ∷ []) l []) (sym word)
-            (Adds-none h (h ++ x ∷ []) b (λ n. text_of-stands next n ∙ ap (λ all. of_number n (λ (q : Live). rows_for q (below mark all)) queries) (accepted-same h (h ++ x ∷ []) r) ∙ sym (text_of-stands s n)));
-      },
-    )
+-- an item that changes nothing
+Stands-still : {c : Config} {h : List Item} {streams items : ℕ} {clocks : List Clock} {changelog made : ℕ} {slots : List Bool} {live : List Seat} (x : Item) → Stands c h streams items clocks changelog made slots live
+    → ((r : StreamId) → IsStill c h x r) → holders c (h ++ x ∷ []) ≡ holders c h → Stands c (h ++ x ∷ []) streams (items + 1) clocks changelog made slots live
+Stands-still {c} {h} {streams} {items} {clocks} {changelog} x s still e =
+    Stands-items x clocks changelog s (s.clocks_are ∙ sym (clocks-still c h x still)) (s.time_is ∙ sym (changelog-still c h x still)) e
 
-book-same : (h : List Item) (x : Item) → book_after stage h (book stage h) x ≡ book stage h → book stage (h ++ x ∷ []) ≡ book stage h
-book-same h x e = book-push stage h x ∙ e
+-- ---- records, watermarks and ends
 
-records-same : (h : List Item) (x : Item) → record_of stage h x ≡ [] → records stage (h ++ x ∷ []) ≡ records stage h
-records-same h x e = records-push stage h x ∙ ap (λ l. records stage h ++ l) e ∙ append-nil (records stage h)
+-- a record that is refused changes nothing
+pub still-record : (c : Config) (h : List Item) (g : Given) (w : Word) → refusal c h (Rec g) ≡ Some w → (r : StreamId) → IsStill c h (Rec g) r
+still-record c h g w e = still-all c h (Rec g) g.stream (λ r. refl) (⊎_elim (still-closed c h (Rec g) g.stream) late (refused-why c h g.stream (nat_lt g.time (front c h g.stream)) word.Late w e))
+  where
+    late : nat_lt g.time (front c h g.stream) ≡ true → IsStill c h (Rec g) g.stream
+    late b =
+        let low = ltb-true g.time (front c h g.stream) b in
+        let seen = front-seen c h g.stream in
+        still-low c h (Rec g) g.stream (omega (arith, low)) (omega arith) (omega (arith, low, seen)) refl
 
-is_on-Rec : (g : Given) → g.stream ≡ A → is_on A (Rec g) ≡ true
-is_on-Rec g a = ap (λ s. eqb (place_of s) 0) a
+pub still-mark : (c : Config) (h : List Item) (s : StreamId) (t : ℕ) (w : Word) → refusal c h (Mark s t) ≡ Some w → (r : StreamId) → IsStill c h (Mark s t) r
+still-mark c h s t w e = still-all c h (Mark s t) s (λ r. refl) (⊎_elim (still-closed c h (Mark s t) s) back (refused-why c h s (nat_lt t (top_mark c h s)) word.Back w e))
+  where
+    back : nat_lt t (top_mark c h s) ≡ true → IsStill c h (Mark s t) s
+    back b =
+        let low = ltb-true t (top_mark c h s) b in
+        let most = top_mark-front c h s in
+        let seen = front-seen c h s in
+        still-low c h (Mark s t) s (omega (arith, low, most)) (omega (arith, low)) (omega (arith, low, most, seen)) refl
 
--- a record below the front
-pub late-step : (h : List Item) (g : Given) (count top mark changelog : ℕ) (queries : List Live) (kept : List Given) → Stands h count top mark changelog queries kept → g.stream ≡ A → g.time < 2 ^ 62 → g.time < top
-    → Stands (h ++ Rec g ∷ []) (count + 1) top mark changelog queries kept × IsStep stage h (Rec g) (record { answer = answer_at count Late; pieces = [] })
-late-step h g count top mark changelog queries kept s a within low =
-    let ahead = s.clock.ahead in
-    let clock = Clock-push h (Rec g) top mark changelog s.clock (is_on-Rec g a) refl (omega arith) (omega arith) (omega (arith, within)) in
-    let refuse = refusal-Rec h g s.clock a ∙ ap (λ b. cond b (Some Late) None) (lt-ltb g.time top low) in
-    refused-step h (Rec g) Late count top mark changelog queries kept s
-    (Clock-at clock (omega (arith, low)) (omega arith) (omega (arith, ahead, low)))
-    (book-same h (Rec g) refl)
-    (records-same h (Rec g) (ap (λ o. cond (is_none o) (record { seq = length h + 1; given = g } ∷ []) []) refuse))
-    refuse refl
+pub still-end : (c : Config) (h : List Item) (s : StreamId) (w : Word) → refusal c h (End s) ≡ Some w → (r : StreamId) → IsStill c h (End s) r
+still-end c h s w e = still-all c h (End s) s (λ r. refl) (⊎_elim (still-closed c h (End s) s) (λ none. absurd (true≢false (sym none))) (refused-why c h s false word.Ended w e))
 
--- a mark below the last
-pub back-step : (h : List Item) (t count top mark changelog : ℕ) (queries : List Live) (kept : List Given) → Stands h count top mark changelog queries kept → t < 2 ^ 62 → t < mark
-    → Stands (h ++ Mark A t ∷ []) (count + 1) top mark changelog queries kept × IsStep stage h (Mark A t) (record { answer = answer_at count Back; pieces = [] })
-back-step h t count top mark changelog queries kept s within low =
-    let ahead = s.clock.ahead in
-    let behind = s.clock.behind in
-    let clock = Clock-push h (Mark A t) top mark changelog s.clock refl refl (omega arith) (omega arith) (omega (arith, within)) in
-    let refuse = refusal-Mark h t s.clock ∙ ap (λ b. cond b (Some Back) None) (lt-ltb t mark low) in
-    refused-step h (Mark A t) Back count top mark changelog queries kept s
-    (Clock-at clock (omega (arith, low, behind)) (omega (arith, low)) (omega (arith, ahead, behind, low)))
-    (book-same h (Mark A t) refl) (records-same h (Mark A t) refl) refuse refl
+-- an item of no stream changes no clock
+pub still-create : (c : Config) (h : List Item) (text : List ℕ) (r : StreamId) → IsStill c h (Create text) r
+still-create c h text r = still-quiet c h (Create text) r refl
 
-created_by-cause : (cause : Cause) → created_by (refusal_of_cause cause) ≡ []
-created_by-cause Long = refl
-created_by-cause Form = refl
+pub still-delete : (c : Config) (h : List Item) (n : ℕ) (r : StreamId) → IsStill c h (Delete n) r
+still-delete c h n r = still-quiet c h (Delete n) r refl
 
--- a line in no form
-pub bad-step : (h : List Item) (cause : Cause) (count top mark changelog : ℕ) (queries : List Live) (kept : List Given) → Stands h count top mark changelog queries kept
-    → Stands (h ++ Bad cause ∷ []) (count + 1) top mark changelog queries kept × IsStep stage h (Bad cause) (record { answer = answer_at count (refusal_of_cause cause); pieces = [] })
-bad-step h cause count top mark changelog queries kept s =
-    refused-step h (Bad cause) (refusal_of_cause cause) count top mark changelog queries kept s
-    (Clock-other h (Bad cause) s.clock refl) (book-same h (Bad cause) refl) (records-same h (Bad cause) refl) refl (created_by-cause cause)
+pub still-bad : (c : Config) (h : List Item) (cause : Cause) (r : StreamId) → IsStill c h (Bad cause) r
+still-bad c h cause r = still-quiet c h (Bad cause) r refl
 
-comes : (a b m n : ℕ) → a ≤ b → m < n → (nat_lt a b || (eqb a b && nat_lt m n)) ≡ true
-comes a b m n h k = grind (arith, nat_tests)
+-- an item that is refused, and changes nothing
+refused-step : {c : Config} {h : List Item} {streams items : ℕ} {clocks : List Clock} {changelog made : ℕ} {slots : List Bool} {live : List Seat} (x : Item) (w : Word) → Stands c h streams items clocks changelog made slots live
+    → refusal c h x ≡ Some w → ((r : StreamId) → IsStill c h x r) → holders c (h ++ x ∷ []) ≡ holders c h
+    → Stands c (h ++ x ∷ []) streams (items + 1) clocks changelog made slots live × IsDecided c h x (Told (record { line = items + 1; word = w }))
+refused-step {c} {h} {streams} {items} x w s e still same = (Stands-still x s still same, told c h x w (items + 1) (ap (λ n. n + 1) s.lines) e)
 
--- a record that is accepted, and what is kept then
-record-step : (h : List Item) (g : Given) (count top mark changelog : ℕ) (queries : List Live) (kept : List Given) → Stands h count top mark changelog queries kept → g.stream ≡ A → g.time < 2 ^ 62 → top ≤ g.time
-    → (kept' : List Given) → AllByRecursion (IsReached g.time (max changelog (g.time + 1))) kept' → NeverFalls kept' → AllByRecursion (Sees (accepted h ++ g ∷ []) mark kept') queries
-    → Stands (h ++ Rec g ∷ []) (count + 1) g.time mark (max changelog (g.time + 1)) queries kept' × IsStep stage h (Rec g) (record { answer = None; pieces = [] })
-record-step h g count top mark changelog queries kept s a within up kept' reached rising sees =
-    let behind = s.clock.behind in
-    let lines = s.lines in
-    let clock = Clock-push h (Rec g) top mark changelog s.clock (is_on-Rec g a) refl (omega arith) (omega arith) (omega (arith, within)) in
-    let refuse = refusal-Rec h g s.clock a ∙ ap (λ b. cond b (Some Late) None) (le-ltb g.time top up) in
-    let new : records stage (h ++ Rec g ∷ []) ≡ records stage h ++ r ∷ [] = records-push stage h (Rec g) ∙ ap (λ o. records stage h ++ cond (is_none o) (r ∷ []) []) refuse in
-    let all = ap (map (λ (t : Record). t.given)) new ∙ map-append (λ (t : Record). t.given) (records stage h) (r ∷ []) in
-    let next : Stands (h ++ Rec g ∷ []) (count + 1) g.time mark (max changelog (g.time + 1)) queries kept' = record {
-      lines = ap (λ n. n + 1) s.lines ∙ sym (length_push h (Rec g));
-      clock = Clock-at clock (omega (arith, up)) (omega arith) refl;
-      book_is = book-same h (Rec g) refl ∙ s.book_is;
-      past = subst (λ l. AllByRecursion (IsPast (count + 1) g.time (max changelog (g.time + 1))) l) (sym new)
-          (All-push (IsPast (count + 1) g.time (max changelog (g.time + 1))) (records stage h) r
-          (All-by (IsPast count top changelog) (IsPast (count + 1) g.time (max changelog (g.time + 1))) (λ t p. IsPast-later t (omega arith) up (omega arith) p) (records stage h) s.past)
-          (record { stream = a; line = omega (arith, lines); reached = omega arith; past = omega arith }));
-      ordered = subst InOrder (sym new) (InOrder-push (records stage h) r s.ordered
-          (All-by (IsPast count top changelog) (λ t. comes_before t r ≡ true) (λ t p. let b = p.reached in let l = p.line in comes t.given.time g.time t.seq (length h + 1) (omega (arith, b, up)) (omega (arith, l, lines))) (records stage h) s.past));
-      reached = reached;
-      rising = rising;
-      sees = subst (λ l. AllByRecursion (Sees l mark kept') queries) (sym all) sees;
-      selects = s.selects;
-    } in (
-      next,
-      record {
-        answer = sym (ap (λ o. answered h (or_else o None)) refuse);
-        adds = Adds-none h (h ++ Rec g ∷ []) (book-same h (Rec g) refl) (λ n. text_of-stands next n
-            ∙ ap (λ l. of_number n (λ (q : Live). rows_for q (below mark l)) queries) all
-            ∙ flat_map-same (λ (q : Live). cond (eqb q.n n) (rows_for q (below mark (accepted h ++ g ∷ []))) []) (λ (q : Live). cond (eqb q.n n) (rows_for q (below mark (accepted h))) []) queries
-            (All-every (λ (q : Live). cond (eqb q.n n) (rows_for q (below mark (accepted h ++ g ∷ []))) [] ≡ cond (eqb q.n n) (rows_for q (below mark (accepted h))) []) (λ q. ap (λ l. cond (eqb q.n n) l []) (rows_below-push q mark (accepted h) g (omega (arith, behind, up)))) queries)
-            ∙ sym (text_of-stands s n));
-      },
+pub refused-record : {c : Config} {h : List Item} {streams items : ℕ} {clocks : List Clock} {changelog made : ℕ} {slots : List Bool} {live : List Seat} (g : Given) (w : Word) → Stands c h streams items clocks changelog made slots live
+    → refusal c h (Rec g) ≡ Some w
+    → Stands c (h ++ Rec g ∷ []) streams (items + 1) clocks changelog made slots live × IsDecided c h (Rec g) (Told (record { line = items + 1; word = w }))
+refused-record {c} {h} g w s e = refused-step (Rec g) w s e (still-record c h g w e) (holders-push c h (Rec g))
+
+pub refused-mark : {c : Config} {h : List Item} {streams items : ℕ} {clocks : List Clock} {changelog made : ℕ} {slots : List Bool} {live : List Seat} (r : StreamId) (t : ℕ) (w : Word) → Stands c h streams items clocks changelog made slots live
+    → refusal c h (Mark r t) ≡ Some w
+    → Stands c (h ++ Mark r t ∷ []) streams (items + 1) clocks changelog made slots live × IsDecided c h (Mark r t) (Told (record { line = items + 1; word = w }))
+refused-mark {c} {h} r t w s e = refused-step (Mark r t) w s e (still-mark c h r t w e) (holders-push c h (Mark r t))
+
+pub refused-end : {c : Config} {h : List Item} {streams items : ℕ} {clocks : List Clock} {changelog made : ℕ} {slots : List Bool} {live : List Seat} (r : StreamId) (w : Word) → Stands c h streams items clocks changelog made slots live
+    → refusal c h (End r) ≡ Some w
+    → Stands c (h ++ End r ∷ []) streams (items + 1) clocks changelog made slots live × IsDecided c h (End r) (Told (record { line = items + 1; word = w }))
+refused-end {c} {h} r w s e = refused-step (End r) w s e (still-end c h r w e) (holders-push c h (End r))
+
+pub record-step : {c : Config} {h : List Item} {streams items : ℕ} {clocks : List Clock} {changelog made : ℕ} {slots : List Bool} {live : List Seat} (g : Given) → Stands c h streams items clocks changelog made slots live
+    → refusal c h (Rec g) ≡ None
+    → Stands c (h ++ Rec g ∷ []) streams (items + 1) (set clocks (place_of g.stream) (record { front = g.time; mark = top_mark c h g.stream; ended = has_ended c h g.stream })) (max changelog (g.time + 1)) made slots live
+    × IsDecided c h (Rec g) (Pass (msg.Rec (record { seq = items + 1; given = g })))
+record-step {c} {h} {streams} {items} {clocks} {changelog} g s e =
+    let free = accepted-open c h g.stream (nat_lt g.time (front c h g.stream)) word.Late e in
+    let up = ltb-false g.time (front c h g.stream) free.ahead in
+    let k : Clock = record { front = g.time; mark = top_mark c h g.stream; ended = has_ended c h g.stream } in (
+      Stands-items (Rec g) _ _ s
+          (ap (λ l. set l (place_of g.stream) k) s.clocks_are
+          ∙ sym (clocks-counted c h (Rec g) g.stream k (λ r. refl) free.open_is (omega (arith, up)) (omega arith) (or_none (has_ended c h g.stream))))
+          (ap (λ t. max t (g.time + 1)) s.time_is ∙ sym (changelog-counted c h (Rec g) g.stream (λ r. refl) free.open_is))
+          (holders-push c h (Rec g)),
+      passed c h (Rec g) _ e refl (ap (λ n. Some (msg.Rec (record { seq = n + 1; given = g }))) (sym s.lines)),
     )
   where
-    r : Record
-    r = record { seq = length h + 1; given = g }
+    or_none : (b : Bool) → (b || false) ≡ b
+    or_none true = refl
+    or_none false = refl
 
--- a record of stream a that is not late
-pub kept-step : (h : List Item) (g : Given) (count top mark changelog : ℕ) (queries : List Live) (kept : List Given) → Stands h count top mark changelog queries kept → g.stream ≡ A → g.time < 2 ^ 62 → top ≤ g.time
-    → Stands (h ++ Rec g ∷ []) (count + 1) g.time mark (max changelog (g.time + 1)) queries (kept_with queries kept g) × IsStep stage h (Rec g) (record { answer = None; pieces = [] })
-kept-step h g count top mark changelog queries kept s a within up = go (is_wanted queries g) refl
-  where
-    behind : mark ≤ g.time
-    behind = let b = s.clock.behind in omega (arith, b, up)
+-- the watermarks of the clocks
+abbrev pub marks_of : List Clock → List ℕ
+marks_of clocks = map (λ (k : Clock). cond k.ended (2 ^ 62) k.mark) clocks
 
-    reached : AllByRecursion (IsReached g.time (max changelog (g.time + 1))) kept
-    reached = All-by (IsReached top changelog) (IsReached g.time (max changelog (g.time + 1))) (λ e p. let b = p.0 in let c = p.1 in (omega (arith, b, up), omega (arith, c))) kept s.reached
-
-    go : (b : Bool) → is_wanted queries g ≡ b
-        → Stands (h ++ Rec g ∷ []) (count + 1) g.time mark (max changelog (g.time + 1)) queries (cond b (kept ++ g ∷ []) kept) × IsStep stage h (Rec g) (record { answer = None; pieces = [] })
-    go true e =
-        record-step h g count top mark changelog queries kept s a within up (kept ++ g ∷ [])
-        (All-push (IsReached g.time (max changelog (g.time + 1))) kept g reached (omega arith, omega arith))
-        (NeverFalls-push kept g s.rising (All-by (IsReached top changelog) (λ (e : Given). e.time ≤ g.time) (λ e p. let b = p.0 in omega (arith, b, up)) kept s.reached))
-        (All-by (Sees (accepted h) mark kept) (Sees (accepted h ++ g ∷ []) mark (kept ++ g ∷ [])) (λ q v. Sees-push (accepted h) kept g mark q behind v) queries s.sees)
-    go false e =
-        record-step h g count top mark changelog queries kept s a within up kept reached s.rising
-        (All-by (λ q. Sees (accepted h) mark kept q × (wants q g ≡ false)) (Sees (accepted h ++ g ∷ []) mark kept) (λ q v. Sees-skip (accepted h) kept g mark q behind v.1 v.0) queries
-        (All-both (Sees (accepted h) mark kept) (λ q. wants q g ≡ false) queries s.sees (All-none (λ q. wants q g) queries e)))
-
--- where the watermark passes some of the kept records, the texts grow by their rows
-text_of-grown : (h h' : List Item) (count top mark changelog t : ℕ) (queries : List Live) (kept passed rest : List Given) → Stands h count top mark changelog queries kept → IsNumbered 1 queries → mark ≤ t
-    → kept ≡ passed ++ rest → AllByRecursion (λ (g : Given). g.time < t) passed → AllByRecursion (λ (g : Given). t ≤ g.time) rest → accepted h' ≡ accepted h
-    → (n : ℕ) → text_of stage h' n ≡ of_number n (λ (q : Live). rows_for q (below t (accepted h'))) queries
-    → text_of stage h' n ≡ text_of stage h n ++ bytes_for n (pieces_of queries passed)
-text_of-grown h h' count top mark changelog t queries kept passed rest s numbered up whole before after same n is =
-    is
-    ∙ ap (λ all. of_number n (λ (q : Live). rows_for q (below t all)) queries) same
-    ∙ flat_map-same (λ (q : Live). cond (eqb q.n n) (rows_for q (below t (accepted h))) []) (λ (q : Live). cond (eqb q.n n) (rows_for q (below mark (accepted h)) ++ rows_for q passed) []) queries
-    (All-by (Sees (accepted h) mark kept) (λ (q : Live). cond (eqb q.n n) (rows_for q (below t (accepted h))) [] ≡ cond (eqb q.n n) (rows_for q (below mark (accepted h)) ++ rows_for q passed) [])
-    (λ q v. ap (λ l. cond (eqb q.n n) l []) (rows-passed (accepted h) kept passed rest mark t q up v whole before after)) queries s.sees)
-    ∙ of_number-both n (λ q. rows_for q (below mark (accepted h))) (λ q. rows_for q passed) 1 queries numbered
-    ∙ ap₂ (λ x y. x ++ y) (sym (text_of-stands s n)) (sym (bytes_for-pieces n (λ q. rows_for q passed) queries))
-
--- a mark of stream a that is not back
-pub mark-step : (h : List Item) (t count top mark changelog : ℕ) (queries : List Live) (kept passed rest : List Given) → Stands h count top mark changelog queries kept → IsNumbered 1 queries → t < 2 ^ 62 → mark ≤ t → IsCut t kept passed rest
-    → Stands (h ++ Mark A t ∷ []) (count + 1) (max top t) t (max changelog (t + 1)) queries rest × IsStep stage h (Mark A t) (record { answer = None; pieces = pieces_of queries passed })
-mark-step h t count top mark changelog queries kept passed rest s numbered within up cut =
-    let clock = Clock-push h (Mark A t) top mark changelog s.clock refl refl (omega arith) (omega arith) (omega (arith, within)) in
-    let refuse = refusal-Mark h t s.clock ∙ ap (λ b. cond b (Some Back) None) (le-ltb t mark up) in
-    let living = book-same h (Mark A t) refl in
-    let same = records-same h (Mark A t) refl in
-    let rising = NeverFalls-rest passed rest (subst NeverFalls cut.whole s.rising) in
-    let after = after-mark t rest cut.from rising in
-    let next : Stands (h ++ Mark A t ∷ []) (count + 1) (max top t) t (max changelog (t + 1)) queries rest = record {
-      lines = ap (λ n. n + 1) s.lines ∙ sym (length_push h (Mark A t));
-      clock = Clock-at clock refl (omega (arith, up)) refl;
-      book_is = living ∙ s.book_is;
-      past = subst (λ l. AllByRecursion (IsPast (count + 1) (max top t) (max changelog (t + 1))) l) (sym same)
-          (All-by (IsPast count top changelog) (IsPast (count + 1) (max top t) (max changelog (t + 1))) (λ r p. IsPast-later r (omega arith) (omega arith) (omega arith) p) (records stage h) s.past);
-      ordered = subst InOrder (sym same) s.ordered;
-      reached = All-by (IsReached top changelog) (IsReached (max top t) (max changelog (t + 1))) (λ e p. let b = p.0 in let c = p.1 in (omega (arith, b), omega (arith, c))) rest
-          (All-rest (IsReached top changelog) passed rest (subst (λ l. AllByRecursion (IsReached top changelog) l) cut.whole s.reached));
-      rising = rising;
-      sees = subst (λ l. AllByRecursion (Sees l t rest) queries) (sym (accepted-same h (h ++ Mark A t ∷ []) same))
-          (All-by (Sees (accepted h) mark kept) (Sees (accepted h) t rest) (λ q v. Sees-cut (accepted h) kept passed rest mark t q up v cut.whole cut.before after) queries s.sees);
-      selects = s.selects;
-    } in
-    let grown = λ (n : ℕ). text_of-grown h (h ++ Mark A t ∷ []) count top mark changelog t queries kept passed rest s numbered up cut.whole cut.before after (accepted-same h (h ++ Mark A t ∷ []) same) n (text_of-stands next n) in (
-      next,
-      record {
-        answer = sym (ap (λ o. answered h (or_else o None)) refuse);
-        adds = Adds-pieces h (h ++ Mark A t ∷ []) queries passed living s.book_is grown;
-      },
+pub mark-step : {c : Config} {h : List Item} {streams items : ℕ} {clocks : List Clock} {changelog made : ℕ} {slots : List Bool} {live : List Seat} (r : StreamId) (t : ℕ) → Stands c h streams items clocks changelog made slots live
+    → refusal c h (Mark r t) ≡ None
+    → let new = set clocks (place_of r) (record { front = max (front c h r) t; mark = t; ended = false }) in
+    Stands c (h ++ Mark r t ∷ []) streams (items + 1) new (max changelog (t + 1)) made slots live
+    × IsDecided c h (Mark r t) (Pass (msg.Advance (marks_of new)))
+mark-step {c} {h} {streams} {items} {clocks} {changelog} r t s e =
+    let free = accepted-open c h r (nat_lt t (top_mark c h r)) word.Back e in
+    let up = ltb-false t (top_mark c h r) free.ahead in
+    let k : Clock = record { front = max (front c h r) t; mark = t; ended = false } in
+    let new = ap (λ l. set l (place_of r) k) s.clocks_are
+    ∙ sym (clocks-counted c h (Mark r t) r k (λ r. refl) free.open_is refl (omega (arith, up)) (ap (λ b. b || false) free.going)) in (
+      Stands-items (Mark r t) _ _ s new (ap (λ n. max n (t + 1)) s.time_is ∙ sym (changelog-counted c h (Mark r t) r (λ r. refl) free.open_is)) (holders-push c h (Mark r t)),
+      passed c h (Mark r t) _ e refl (ap (λ l. Some (msg.Advance (marks_of l))) (sym new)),
     )
 
-shut-is : (h : List Item) → has_ended stage h A ≡ false → shut stage h ≡ h ++ End A ∷ []
-shut-is h e = ap (λ b. h ++ cond (not b) (End A ∷ []) []) e
+pub end-step : {c : Config} {h : List Item} {streams items : ℕ} {clocks : List Clock} {changelog made : ℕ} {slots : List Bool} {live : List Seat} (r : StreamId) → Stands c h streams items clocks changelog made slots live
+    → refusal c h (End r) ≡ None
+    → let new = set clocks (place_of r) (record { front = front c h r; mark = top_mark c h r; ended = true }) in
+    Stands c (h ++ End r ∷ []) streams (items + 1) new changelog made slots live
+    × IsDecided c h (End r) (Pass (msg.Advance (marks_of new)))
+end-step {c} {h} {streams} {items} {clocks} {changelog} r s e =
+    let free = accepted-open c h r false word.Ended e in
+    let k : Clock = record { front = front c h r; mark = top_mark c h r; ended = true } in
+    let new = ap (λ l. set l (place_of r) k) s.clocks_are
+    ∙ sym (clocks-counted c h (End r) r k (λ r. refl) free.open_is (omega arith) (omega arith) (or_all (has_ended c h r))) in (
+      Stands-items (End r) _ _ s new (s.time_is ∙ sym (changelog-counted c h (End r) r (λ r. refl) free.open_is ∙ omega arith)) (holders-push c h (End r)),
+      passed c h (End r) _ e refl (ap (λ l. Some (msg.Advance (marks_of l))) (sym new)),
+    )
+  where
+    or_all : (b : Bool) → (b || true) ≡ true
+    or_all true = refl
+    or_all false = refl
 
--- the end of stream a, which passes all records kept
-pub shut-step : (h : List Item) (count top mark changelog : ℕ) (queries : List Live) (kept : List Given) → Stands h count top mark changelog queries kept → IsNumbered 1 queries → Adds stage h (shut stage h) [] (pieces_of queries kept)
-shut-step h count top mark changelog queries kept s numbered =
-    let ends = s.clock.ends in
-    let behind = s.clock.behind in
-    let ahead = s.clock.ahead in
-    let living = book-same h (End A) refl in
-    let same = records-same h (End A) refl in
-    let within : AllByRecursion IsTimely (records stage h) =
-    All-by (IsPast count top changelog) IsTimely (λ r p. (p.stream, let a = p.past in omega (arith, a, ends))) (records stage h) s.past in
-    let before = All-by (IsReached top changelog) (λ (e : Given). e.time < 2 ^ 62) (λ e p. let c = p.1 in omega (arith, c, ends)) kept s.reached in
-    let is = λ (n : ℕ). text_of-is (h ++ End A ∷ []) (2 ^ 62) queries n (living ∙ s.book_is) s.selects (subst InOrder (sym same) s.ordered) (subst (λ l. AllByRecursion IsTimely l) (sym same) within)
-    (ap (λ b. cond b (2 ^ 62) (top_mark stage (h ++ End A ∷ []) A)) (ended-by h s.clock.going)) in
-    subst (λ l. Adds stage h l [] (pieces_of queries kept)) (sym (shut-is h s.clock.going))
-    (Adds-pieces h (h ++ End A ∷ []) queries kept living s.book_is (λ n.
-    text_of-grown h (h ++ End A ∷ []) count top mark changelog (2 ^ 62) queries kept kept [] s numbered (omega (arith, behind, ahead, ends)) (sym (append-nil kept)) before tt (accepted-same h (h ++ End A ∷ []) same) n (is n)))
+-- ---- lines in no form
 
--- a creation that is refused whatever slots there are has no plan that is built
-unplanned-none : (p : Result Plan Word) (w : Word) → unplanned p ≡ Some w → built p ≡ None
+pub bad-step : {c : Config} {h : List Item} {streams items : ℕ} {clocks : List Clock} {changelog made : ℕ} {slots : List Bool} {live : List Seat} (cause : Cause) → Stands c h streams items clocks changelog made slots live
+    → Stands c (h ++ Bad cause ∷ []) streams (items + 1) clocks changelog made slots live × IsDecided c h (Bad cause) (Told (record { line = items + 1; word = refusal_of_cause cause }))
+bad-step {c} {h} cause s = refused-step (Bad cause) (refusal_of_cause cause) s refl (still-bad c h cause) (holders-push c h (Bad cause))
+
+-- ---- creations
+
+-- a query that is refused whatever slots there are has no plan that is built
+pub unplanned-none : (p : Result Plan Word) (w : Word) → unplanned p ≡ Some w → built p ≡ None
 unplanned-none (Err u) w e = refl
-unplanned-none (Ok plan) w e = go (is_plan_built plan) e
+unplanned-none (Ok plan) w e = go (is_select plan.kind) e
   where
-    go : (b : Bool) → cond b None (Some Later) ≡ Some w → cond b (Some plan) None ≡ None
+    go : (b : Bool) → cond b None (Some word.Later) ≡ Some w → cond b (Some plan) None ≡ None
     go true e = absurd (true≢false (ap is_none e))
     go false e = refl
 
 -- one that is not has one
-unplanned-some : (p : Result Plan Word) (plan : Plan) → p ≡ Ok plan → is_plan_built plan ≡ true → (unplanned p ≡ None) × (built p ≡ Some plan)
+pub unplanned-some : (p : Result Plan Word) (plan : Plan) → p ≡ Ok plan → is_select plan.kind ≡ true → (unplanned p ≡ None) × (built p ≡ Some plan)
 unplanned-some p plan is ok =
-    (ap unplanned is ∙ ap (λ b. cond b None (Some Later)) ok, ap built is ∙ ap (λ b. cond b (Some plan) None) ok)
+    (ap unplanned is ∙ ap (λ b. cond b None (Some word.Later)) ok, ap built is ∙ ap (λ b. cond b (Some plan) None) ok)
 
-unbooked : (h : List Item) (text : List ℕ) → built (plan_for stage text) ≡ None → book_after stage h (book stage h) (Create text) ≡ book stage h
-unbooked h text none =
-    ap (λ p. cond (has_slot stage (book stage h)) (opened (book stage h) p (changelog_time stage h)) (book stage h)) none
-    ∙ cond_same (has_slot stage (book stage h)) (book stage h)
+pub holders-unplanned : (c : Config) (h : List Item) (text : List ℕ) → built (plan_for c text) ≡ None → holders c (h ++ Create text ∷ []) ≡ holders c h
+holders-unplanned c h text none =
+    holders-push c h (Create text)
+    ∙ ap (λ p. cond (has_slot c (queries_of (holders c h))) (with_holder c (holders c h) p (changelog_time c h)) (holders c h)) none
+    ∙ cond_same (has_slot c (queries_of (holders c h))) (holders c h)
 
-abbrev created_of : Option Word → List ℕ
-created_of None = []
-created_of (Some w) = created_by w
+pub holders-full : (c : Config) (h : List Item) (text : List ℕ) → has_slot c (book c h) ≡ false → holders c (h ++ Create text ∷ []) ≡ holders c h
+holders-full c h text full =
+    holders-push c h (Create text)
+    ∙ ap (λ b. cond b (with_holder c (holders c h) (built (plan_for c text)) (changelog_time c h)) (holders c h)) (ap (has_slot c) (holders-queries c h) ∙ full)
 
--- no refusal of a text tells of a query
-unplanned-quiet : (reading : Result Ast ℕ) → created_of (unplanned (plan_of_reading 4 reading)) ≡ []
-unplanned-quiet (Err place) = refl
-unplanned-quiet (Ok tree) = go (plan 4 tree)
-  where
-    yet : (b : Bool) → created_of (cond b None (Some Later)) ≡ []
-    yet true = refl
-    yet false = refl
-
-    go : (p : Result Plan Misfit) → created_of (unplanned (or_word p)) ≡ []
-    go (Err Misfit.Stranger) = refl
-    go (Err Misfit.Twin) = refl
-    go (Err Misfit.Window) = refl
-    go (Ok plan) = yet (is_plan_built plan)
+holders-opened : (c : Config) (h : List Item) (text : List ℕ) (plan : Plan) → has_slot c (book c h) ≡ true → built (plan_for c text) ≡ Some plan
+    → holders c (h ++ Create text ∷ []) ≡ with_holder c (holders c h) (Some plan) (changelog_time c h)
+holders-opened c h text plan free planned =
+    holders-push c h (Create text)
+    ∙ ap (λ b. cond b (with_holder c (holders c h) (built (plan_for c text)) (changelog_time c h)) (holders c h)) (ap (has_slot c) (holders-queries c h) ∙ free)
+    ∙ ap (λ p. with_holder c (holders c h) p (changelog_time c h)) planned
 
 -- a creation that is refused by its text, or since it is yet to be built
-pub unplanned-step : (h : List Item) (text : List ℕ) (w : Word) (count top mark changelog : ℕ) (queries : List Live) (kept : List Given) → Stands h count top mark changelog queries kept → unplanned (plan_for stage text) ≡ Some w
-    → Stands (h ++ Create text ∷ []) (count + 1) top mark changelog queries kept × IsStep stage h (Create text) (record { answer = answer_at count w; pieces = [] })
-unplanned-step h text w count top mark changelog queries kept s why =
-    refused-step h (Create text) w count top mark changelog queries kept s
-    (Clock-other h (Create text) s.clock refl)
-    (book-same h (Create text) (unbooked h text (unplanned-none (plan_for stage text) w why)))
-    (records-same h (Create text) refl)
-    (ap (λ o. creation_refusal o (has_slot stage (book stage h))) why)
-    (sym (ap created_of why) ∙ unplanned-quiet (read_text text))
+pub unplanned-step : {c : Config} {h : List Item} {streams items : ℕ} {clocks : List Clock} {changelog made : ℕ} {slots : List Bool} {live : List Seat} (text : List ℕ) (w : Word) → Stands c h streams items clocks changelog made slots live
+    → unplanned (plan_for c text) ≡ Some w
+    → Stands c (h ++ Create text ∷ []) streams (items + 1) clocks changelog made slots live × IsDecided c h (Create text) (Told (record { line = items + 1; word = w }))
+unplanned-step {c} {h} text w s why =
+    refused-step (Create text) w s (ap (λ o. creation_refusal o (has_slot c (book c h))) why) (still-create c h text)
+    (holders-unplanned c h text (unplanned-none (plan_for c text) w why))
 
--- a creation where all slots are taken
-pub full-step : (h : List Item) (text : List ℕ) (plan : Plan) (count top mark changelog : ℕ) (queries : List Live) (kept : List Given) → Stands h count top mark changelog queries kept → plan_for stage text ≡ Ok plan → is_plan_built plan ≡ true → 64 ≤ length queries
-    → Stands (h ++ Create text ∷ []) (count + 1) top mark changelog queries kept × IsStep stage h (Create text) (record { answer = answer_at count Full; pieces = [] })
-full-step h text plan count top mark changelog queries kept s is ok full =
-    let slot = has_slot-is h queries s.book_is ∙ le-ltb (length queries) 64 full in
-    let planned = unplanned-some (plan_for stage text) plan is ok in
-    refused-step h (Create text) Full count top mark changelog queries kept s
-    (Clock-other h (Create text) s.clock refl)
-    (book-same h (Create text) (ap (λ b. cond b (opened (book stage h) (built (plan_for stage text)) (changelog_time stage h)) (book stage h)) slot))
-    (records-same h (Create text) refl)
-    (ap₂ creation_refusal planned.0 slot)
-    refl
+-- a slot is free just where fewer are live than there are
+has_slot-live : {c : Config} {h : List Item} {streams items : ℕ} {clocks : List Clock} {changelog made : ℕ} {slots : List Bool} {live : List Seat} → Stands c h streams items clocks changelog made slots live
+    → has_slot c (book c h) ≡ nat_lt (live_count slots) (length slots)
+has_slot-live {c} {h} s =
+    ap (has_slot c) (sym (holders-queries c h))
+    ∙ has_slot-seats c (holders c h) (holders-seated c h)
+    ∙ ap₂ nat_lt (ap live_count (sym s.slots_are)) (sym (ap length s.slots_are ∙ length-slots_of c (holders c h)))
 
-query_at : Plan → ℕ → ℕ → Query
-query_at plan n at = record { n = n; plan = plan; from = at; to = 2 ^ 62; live = true }
+-- a creation where each slot is held
+pub full-step : {c : Config} {h : List Item} {streams items : ℕ} {clocks : List Clock} {changelog made : ℕ} {slots : List Bool} {live : List Seat} (text : List ℕ) (plan : Plan) → Stands c h streams items clocks changelog made slots live
+    → plan_for c text ≡ Ok plan → is_select plan.kind ≡ true → position (λ on. not on) slots ≡ None
+    → Stands c (h ++ Create text ∷ []) streams (items + 1) clocks changelog made slots live × IsDecided c h (Create text) (Told (record { line = items + 1; word = word.Full }))
+full-step {c} {h} {streams} {items} {clocks} {changelog} {made} {slots} text plan s is ok none =
+    let full = has_slot-live s ∙ le-ltb (live_count slots) (length slots) (let e = live_count-full slots (sym none) in omega (arith, e)) in
+    refused-step (Create text) word.Full s (ap₂ creation_refusal (unplanned-some (plan_for c text) plan is ok).0 full) (still-create c h text) (holders-full c h text full)
 
--- the plan that is built reads stream a
-left-a : (plan : Plan) → is_plan_built plan ≡ true → plan.left ≡ A
-left-a plan ok = place-a plan.left (and_parts (is_select plan.kind) (eqb (place_of plan.left) 0) ok).1
-  where
-    place-a : (s : StreamId) → eqb (place_of s) 0 ≡ true → s ≡ A
-    place-a A e = refl
-    place-a B e = absurd (true≢false (sym e))
-    place-a C e = absurd (true≢false (sym e))
-    place-a D e = absurd (true≢false (sym e))
-
-All-given : (P : Given → Type 0) (rs : List Record) → AllByRecursion (λ (r : Record). P r.given) rs → AllByRecursion P (map (λ (r : Record). r.given) rs)
-All-given P [] h = tt
-All-given P (r ∷ rs) h = (h.0, All-given P rs h.1)
-
--- a creation where a slot is free
-pub create-step : (h : List Item) (text : List ℕ) (plan : Plan) (count top mark changelog : ℕ) (queries : List Live) (kept : List Given) → Stands h count top mark changelog queries kept → IsNumbered 1 queries → plan_for stage text ≡ Ok plan → is_plan_built plan ≡ true → plan.right ≡ plan.left → length queries < 64
-    → Stands (h ++ Create text ∷ []) (count + 1) top mark changelog (queries ++ (record { n = length queries + 1; from = changelog; plan = plan }) ∷ []) kept
-    × IsStep stage h (Create text) (record { answer = answer_at count (Created (length queries + 1) changelog); pieces = [] })
-unfolding query_at
-create-step h text plan count top mark changelog queries kept s numbered is ok one free =
-    let slot = has_slot-is h queries s.book_is ∙ lt-ltb (length queries) 64 free in
-    let planned = unplanned-some (plan_for stage text) plan is ok in
-    let same = records-same h (Create text) refl in
-    let all = accepted-same h (h ++ Create text ∷ []) same in
-    let many = ap length s.book_is ∙ length-map queries query_of in
-    let early : AllByRecursion (λ (g : Given). g.time < changelog) (accepted h) =
-    All-given (λ (g : Given). g.time < changelog) (records stage h) (All-by (IsPast count top changelog) (λ (r : Record). r.given.time < changelog) (λ r p. p.past) (records stage h) s.past) in
-    let before = All-by (IsReached top changelog) (λ (e : Given). e.time < changelog) (λ e p. p.1) kept s.reached in
-    let living : book stage (h ++ Create text ∷ []) ≡ map query_of (queries ++ new ∷ []) =
-    book-push stage h (Create text)
-    ∙ ap (λ b. cond b (opened (book stage h) (built (plan_for stage text)) (changelog_time stage h)) (book stage h)) slot
-    ∙ ap (λ p. opened (book stage h) p (changelog_time stage h)) planned.1
-    ∙ ap (λ m. book stage h ++ query_at plan (m + 1) (changelog_time stage h) ∷ []) many
-    ∙ ap (λ at. book stage h ++ query_at plan (length queries + 1) at ∷ []) s.clock.changelog_is
-    ∙ ap (λ l. l ++ query_of new ∷ []) s.book_is
-    ∙ sym (map-append query_of queries (new ∷ [])) in
-    let next : Stands (h ++ Create text ∷ []) (count + 1) top mark changelog (queries ++ new ∷ []) kept = record {
-      lines = ap (λ n. n + 1) s.lines ∙ sym (length_push h (Create text));
-      clock = Clock-other h (Create text) s.clock refl;
-      book_is = living;
-      past = subst (λ l. AllByRecursion (IsPast (count + 1) top changelog) l) (sym same)
-          (All-by (IsPast count top changelog) (IsPast (count + 1) top changelog) (λ t p. IsPast-later t (omega arith) (omega arith) (omega arith) p) (records stage h) s.past);
-      ordered = subst InOrder (sym same) s.ordered;
-      reached = s.reached;
-      rising = s.rising;
-      sees = subst (λ l. AllByRecursion (Sees l mark kept) (queries ++ new ∷ [])) (sym all)
-          (All-push (Sees (accepted h) mark kept) queries new s.sees (Sees-new (accepted h) kept mark new early before));
-      selects = All-push ReadsA queries new s.selects (left-a plan ok, one ∙ left-a plan ok);
-    } in
-    let accept = ap₂ creation_refusal planned.0 slot in (
-      next,
+-- a creation where a slot is free, which gets the least
+pub open-step : {c : Config} {h : List Item} {streams items : ℕ} {clocks : List Clock} {changelog made : ℕ} {slots : List Bool} {live : List Seat} (text : List ℕ) (plan : Plan) (slot : ℕ) → Stands c h streams items clocks changelog made slots live
+    → plan_for c text ≡ Ok plan → is_select plan.kind ≡ true → position (λ on. not on) slots ≡ Some slot
+    → Stands c (h ++ Create text ∷ []) streams (items + 1) clocks changelog (made + 1) (set slots slot true) (live ++ (record { n = made + 1; slot = slot }) ∷ [])
+    × IsDecided c h (Create text) (Acted (record { line = items + 1; word = word.Created (made + 1) changelog }) (Opened (made + 1) slot changelog plan))
+open-step {c} {h} {streams} {items} {clocks} {changelog} {made} {slots} {live} text plan slot s is ok free =
+    let planned = unplanned-some (plan_for c text) plan is ok in
+    let some = has_slot-live s ∙ lt-ltb (live_count slots) (length slots) (live_count-lt slots slot (sym free)) in
+    let hs = holders c h in
+    let new : holders c (h ++ Create text ∷ []) ≡ with_holder c hs (Some plan) (changelog_time c h) = holders-opened c h text plan some planned.1 in
+    let least : least_free c hs ≡ slot = ap (λ l. unwrap_or (position (λ on. not on) l) 0) (sym s.slots_are) ∙ ap (λ o. unwrap_or o 0) free in
+    let many : length hs ≡ made = sym (length-map hs (λ (k : Holder). k.query)) ∙ ap length (holders-queries c h) ∙ sym s.made_is in
+    let still = still-create c h text in (
       record {
-        answer = ap (λ n. answer_at n (Created (length queries + 1) changelog)) s.lines
-            ∙ sym (ap (λ o. answered h (or_else o (acceptance_word stage h (Create text)))) accept ∙ ap₂ (λ m at. answer_at (length h) (Created (m + 1) at)) many s.clock.changelog_is);
-        adds = record {
-          book = numbers-are (h ++ Create text ∷ []) (queries ++ new ∷ []) living ∙ map-append (λ (q : Live). q.n) queries (new ∷ []) ∙ ap (λ l. l ++ (length queries + 1) ∷ []) (sym (numbers-are h queries s.book_is));
-          fresh = λ n some. let m = times-one n (length queries + 1) some in ap (times n) (numbers-are h queries s.book_is) ∙ times-above n 1 queries numbered (omega (arith, m));
-          text = λ n. text_of-stands next n
-              ∙ ap (λ l. of_number n (λ (q : Live). rows_for q (below mark l)) (queries ++ new ∷ [])) all
-              ∙ flat_map-append (λ (q : Live). cond (eqb q.n n) (rows_for q (below mark (accepted h))) []) queries (new ∷ [])
-              ∙ ap₂ (λ x y. x ++ y) (sym (text_of-stands s n)) (ap (λ y. cond (eqb (length queries + 1) n) y [] ++ []) (late-all mark new (accepted h) early))
-              ∙ ap (λ l. text_of stage h n ++ (l ++ [])) (cond_same (eqb (length queries + 1) n) []);
-          known = tt;
-        };
+        configured = s.configured;
+        lines = ap (λ n. n + 1) s.lines ∙ sym (length_push h (Create text));
+        clocks_are = s.clocks_are ∙ sym (clocks-still c h (Create text) still);
+        time_is = s.time_is ∙ sym (changelog-still c h (Create text) still);
+        made_is = ap (λ n. n + 1) (sym many) ∙ sym (length_push hs _) ∙ ap length (sym new) ∙ sym (length-map (holders c (h ++ Create text ∷ [])) (λ (k : Holder). k.query)) ∙ ap length (holders-queries c (h ++ Create text ∷ []));
+        slots_are = ap₂ (λ l i. set l i true) s.slots_are (sym least)
+            ∙ slots_of-opened c hs plan (changelog_time c h) (holders-seated c h) (ap (has_slot c) (holders-queries c h) ∙ some)
+            ∙ ap (slots_of c) (sym new);
+        live_are = ap₂ (λ n i. live ++ (record { n = n + 1; slot = i }) ∷ []) (sym many) (sym least)
+            ∙ ap (λ l. l ++ (record { n = length hs + 1; slot = least_free c hs }) ∷ []) s.live_are
+            ∙ sym (seats-push hs (record { query = opened (length hs + 1) plan (changelog_time c h); slot = least_free c hs }))
+            ∙ ap seats_of (sym new);
       },
+      acted c h (Create text) (word.Created (made + 1) changelog) (Opened (made + 1) slot changelog plan) (items + 1) (ap (λ n. n + 1) s.lines)
+          (ap₂ creation_refusal planned.0 some)
+          (ap₂ (λ n at. Some (word.Created (n + 1) at)) (sym s.made_is) (sym s.time_is))
+          (ap (opening c h) planned.1
+          ∙ ap₂ (λ n i. Some (msg.Change (Opened (n + 1) i (changelog_time c h) plan))) (sym s.made_is) least
+          ∙ ap (λ at. Some (msg.Change (Opened (made + 1) slot at plan))) (sym s.time_is)),
     )
+
+-- ---- deletions
+
+lives-live : {c : Config} {h : List Item} {streams items : ℕ} {clocks : List Clock} {changelog made : ℕ} {slots : List Bool} {live : List Seat} (n : ℕ) → Stands c h streams items clocks changelog made slots live
+    → list_any (is_live n) (book c h) ≡ list_any (λ (t : Seat). eqb t.n n) live
+lives-live {c} {h} n s =
+    ap (list_any (is_live n)) (sym (holders-queries c h)) ∙ lives-seats n (holders c h) ∙ ap (list_any (λ (t : Seat). eqb t.n n)) (sym s.live_are)
+
+pub closed_holders-dead : (n at : ℕ) (hs : List Holder) → list_any (is_live n) (queries_of hs) ≡ false → map (closed_holder n at) hs ≡ hs
+closed_holders-dead n at [] e = refl
+closed_holders-dead n at (k ∷ hs) e = go (is_live n k.query) e (λ rest. closed_holders-dead n at hs rest)
   where
-    new : Live
-    new = record { n = length queries + 1; from = changelog; plan = plan }
+    go : (b : Bool) → (b || list_any (is_live n) (queries_of hs)) ≡ false → (list_any (is_live n) (queries_of hs) ≡ false → map (closed_holder n at) hs ≡ hs)
+        → (record { query = cond b (record { n = k.query.n; plan = k.query.plan; from = k.query.from; to = at; live = false }) k.query; slot = k.slot }) ∷ map (closed_holder n at) hs ≡ k ∷ hs
+    go true e rest = absurd (true≢false e)
+    go false e rest = ap (λ l. k ∷ l) (rest e)
+
+-- the deletion of a query that does not live
+pub unknown-step : {c : Config} {h : List Item} {streams items : ℕ} {clocks : List Clock} {changelog made : ℕ} {slots : List Bool} {live : List Seat} (n : ℕ) → Stands c h streams items clocks changelog made slots live
+    → position (λ (t : Seat). eqb t.n n) live ≡ None
+    → Stands c (h ++ Delete n ∷ []) streams (items + 1) clocks changelog made slots live × IsDecided c h (Delete n) (Told (record { line = items + 1; word = word.Unknown }))
+unknown-step {c} {h} {streams} {items} {clocks} {changelog} {made} {slots} {live} n s none =
+    let dead = lives-live n s ∙ position-none (λ (t : Seat). eqb t.n n) live none in
+    refused-step (Delete n) word.Unknown s (ap (λ b. cond b None (Some word.Unknown)) dead) (still-delete c h n)
+    (holders-push c h (Delete n) ∙ closed_holders-dead n (changelog_time c h) (holders c h) (ap (list_any (is_live n)) (holders-queries c h) ∙ dead))
+
+-- the deletion of a live query, whose slot is free then
+pub delete-step : {c : Config} {h : List Item} {streams items : ℕ} {clocks : List Clock} {changelog made : ℕ} {slots : List Bool} {live : List Seat} (n i : ℕ) (d : Seat) → Stands c h streams items clocks changelog made slots live
+    → position (λ (t : Seat). eqb t.n n) live ≡ Some i
+    → let slot = (get_or live i d).slot in
+    Stands c (h ++ Delete n ∷ []) streams (items + 1) clocks changelog made (set slots slot false) (remove live i)
+    × IsDecided c h (Delete n) (Acted (record { line = items + 1; word = word.Deleted n changelog }) (Closed n slot changelog))
+delete-step {c} {h} {streams} {items} {clocks} {changelog} {made} {slots} {live} n i d s some =
+    let hs = holders c h in
+    let p : Seat → Bool = λ t. eqb t.n n in
+    let here = position-some p live i some in
+    let at : position_or_len p (seats_of hs) ≡ i = ap (position_or_len p) (sym s.live_are) ∙ here.0 in
+    let many = ap length s.live_are in
+    let within : position_or_len p (seats_of hs) < length (seats_of hs) = let w = here.1 in omega (arith, at, w, many) in
+    let one = numbers-once c h n in
+    let new = holders-push c h (Delete n) in
+    let lives = lives-live n s ∙ list_any-position p live ∙ lt-ltb (position_or_len p live) (length live) (let a = here.0 in let w = here.1 in omega (arith, a, w)) in
+    let still = still-delete c h n in
+    let mine : (get_or (seats_of hs) (position_or_len p (seats_of hs)) d).slot ≡ (get_or live i d).slot = ap₂ (λ l j. (get_or l j d).slot) (sym s.live_are) at in (
+      record {
+        configured = s.configured;
+        lines = ap (λ m. m + 1) s.lines ∙ sym (length_push h (Delete n));
+        clocks_are = s.clocks_are ∙ sym (clocks-still c h (Delete n) still);
+        time_is = s.time_is ∙ sym (changelog-still c h (Delete n) still);
+        made_is = s.made_is ∙ ap length (sym (holders-queries c h)) ∙ length-map hs (λ (k : Holder). k.query) ∙ sym (length-map hs (closed_holder n (changelog_time c h)))
+            ∙ ap length (sym new) ∙ sym (length-map (holders c (h ++ Delete n ∷ [])) (λ (k : Holder). k.query)) ∙ ap length (holders-queries c (h ++ Delete n ∷ []));
+        slots_are = ap₂ (λ l j. set l j false) s.slots_are (sym mine) ∙ slots_of-closed c hs n (changelog_time c h) d (holders-seated c h) within one ∙ ap (slots_of c) (sym new);
+        live_are = ap₂ remove s.live_are (sym at) ∙ sym (seats-gone n (changelog_time c h) hs within one) ∙ ap seats_of (sym new);
+      },
+      acted c h (Delete n) (word.Deleted n changelog) (Closed n (get_or live i d).slot changelog) (items + 1) (ap (λ m. m + 1) s.lines)
+          (ap (λ b. cond b None (Some word.Unknown)) lives)
+          (ap (λ at. Some (word.Deleted n at)) (sym s.time_is))
+          (ap₂ (λ j at. Some (msg.Change (Closed n j at))) (slot_of-seats n hs ∙ slot_in-at n (seats_of hs) d within ∙ mine) (sym s.time_is)),
+    )
+
+-- ---- before the first item
+
+pub first-stands : (c : Config) (streams slots : ℕ) → c.streams ≡ streams → c.slots ≡ slots
+    → let k : Clock = record { front = 0; mark = 0; ended = false } in Stands c [] streams 0 (k ∷ k ∷ k ∷ k ∷ []) 0 0 (replicate slots false) []
+first-stands c many slots e f = record {
+  configured = sym e;
+  lines = refl;
+  clocks_are = sym (clocks-are (clock-none c A) (clock-none c B) (clock-none c C) (clock-none c D));
+  time_is = sym (ap₂ max (seen-none A) (ap₂ max (seen-none B) (ap₂ max (seen-none C) (seen-none D))));
+  made_is = refl;
+  slots_are = ap (λ n. replicate n false) (sym f) ∙ sym (slots_of-none c);
+  live_are = refl;
+}
+  where
+    seen-none : (s : StreamId) → seen_on c [] s ≡ 0
+    seen-none s = ap (greatest tick_after) (counting-none c s)

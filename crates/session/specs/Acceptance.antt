@@ -1,5 +1,5 @@
 -- Which items count, and the front, the watermark and the changelog time after a list of items.
-use Rattle.std.specs.Prelude.{ℕ, ◌+◌, ◌^◌, ◌==◌, max, if◌then◌else◌, Bool, true, false, List, [], ◌∷◌}
+use Rattle.std.specs.Prelude.{ℕ, ◌+◌, ◌^◌, ◌==◌, max, if◌then◌else◌, Bool, true, false, List, [], ◌∷◌, ◌&&◌, not}
 use Rattle.std.specs.List.{filter, list_any}
 use Rattle.as_base.specs.declared.config.Config.{Config}
 use Rattle.as_base.specs.declared.stream.StreamId.{StreamId}
@@ -79,6 +79,10 @@ top_mark c h s = greatest mark_of (counting c s h)
 -- an end of the stream counts
 abbrev pub has_ended : Config → List Item → StreamId → Bool
 has_ended c h s = list_any is_end (counting c s h)
+
+-- an end of the stream would be accepted: it is configured and has not ended
+abbrev pub is_open : Config → List Item → StreamId → Bool
+is_open c h s = is_configured c s && not (has_ended c h s)
 
 -- The watermark of the stream: no later record of it has a time below. After its end it is 2^62, the tick after all times.
 abbrev pub watermark : Config → List Item → StreamId → ℕ

@@ -1,12 +1,11 @@
 -- The answers to a list of items.
-use Rattle.std.specs.Prelude.{◌+◌, if◌then◌else◌, Option, Some, None, option_to_list, List, [], ◌∷◌, ◌++◌, length}
+use Rattle.std.specs.Prelude.{◌+◌, Option, Some, None, option_to_list, List, [], ◌∷◌, ◌++◌, length}
 use Rattle.as_base.specs.declared.config.Config.{Config}
 use Rattle.as_base.specs.declared.item.Item.{Item}
 use Rattle.as_base.specs.declared.item.Item.TheVariants.{Rec, Mark, End, Create, Delete, Bad}
 use Rattle.as_base.specs.declared.answer.Word.{Word}
-use Rattle.as_base.specs.declared.answer.Word.TheVariants.{Created, Deleted, Later}
+use Rattle.as_base.specs.declared.answer.Word.TheVariants.{Created, Deleted}
 use Rattle.as_base.specs.declared.answer.Answer.{Answer}
-use Rattle.session.specs.Stage.{is_built, taken}
 use Rattle.session.specs.Acceptance.{changelog_time}
 use Rattle.session.specs.Book.{book, refusal}
 
@@ -35,12 +34,8 @@ answered h None = None
 answered h (Some w) = Some (record { line = length h + 1; word = w })
 
 -- The answer by the rule to an item after the items `h`: its refusal, or the word of its acceptance, or none.
-abbrev pub answer_by_rule : Config → List Item → Item → Option Answer
-answer_by_rule c h x = answered h (or_else (refusal c h x) (acceptance_word c h x))
-
--- The answer to an item after the items `h`: `later` where it isn't built, else by the rule.
 abbrev pub answer_to : Config → List Item → Item → Option Answer
-answer_to c h x = if is_built c x then answer_by_rule c (taken c h) x else answered h (Some Later)
+answer_to c h x = answered h (or_else (refusal c h x) (acceptance_word c h x))
 
 -- The answers to the items, in order; an item may have none.
 abbrev pub answers : Config → List Item → List Answer

@@ -1,5 +1,5 @@
 -- The queries that a list of items made, and the word that each item is refused by.
-use Rattle.std.specs.Prelude.{ℕ, ◌+◌, ◌^◌, ◌==◌, ◌&&◌, not, nat_lt, if◌then◌else◌, Bool, true, false, Option, Some, None, is_none, List, [], ◌∷◌, ◌++◌, map, length, count_by}
+use Rattle.std.specs.Prelude.{ℕ, ◌+◌, not, nat_lt, if◌then◌else◌, Bool, false, Option, Some, None, is_none, List, [], ◌∷◌, ◌++◌, map, length, count_by}
 use Rattle.std.specs.List.{list_any}
 use Rattle.as_base.specs.declared.config.Config.{Config}
 use Rattle.as_base.specs.declared.stream.StreamId.{StreamId}
@@ -11,31 +11,22 @@ use Rattle.as_base.specs.declared.query.Plan.{Plan}
 use Rattle.as_base.specs.declared.answer.Word.{Word}
 use Rattle.as_base.specs.declared.answer.Word.TheVariants as word
 use Rattle.as_base.specs.Config.{is_configured}
-use Rattle.views.specs.Query.{Query}
+use Rattle.views.specs.Query.{Query, opened, is_live, closed}
 use Rattle.session.specs.Acceptance.{front, top_mark, has_ended, changelog_time}
-use Rattle.session.specs.Stage.{plan_for}
-use Rattle.session.specs.Selection.{built, unplanned}
+use Rattle.session.specs.Planned.{plan_for, built, unplanned}
 
 -- fewer queries live than there are slots
 abbrev pub has_slot : Config → List Query → Bool
 has_slot c book = nat_lt (count_by (λ (q : Query). q.live) book) c.slots
 
--- the query has this number and lives
-abbrev pub is_live : ℕ → Query → Bool
-is_live n q = q.n == n && q.live
-
--- the book with one more query, if there is a plan: it lives from the time on, up to 2^62, the tick after all times
-abbrev pub opened : List Query → Option Plan → ℕ → List Query
-opened book None at = book
-opened book (Some plan) at = book ++ (record { n = length book + 1; plan = plan; from = at; to = 2 ^ 62; live = true }) ∷ []
-
--- the query, whose life ends at the time if it lives and has this number
-abbrev pub closed : ℕ → ℕ → Query → Query
-closed n at q = if is_live n q then record { n = q.n; plan = q.plan; from = q.from; to = at; live = false } else q
+-- the book with one more query, if there is a plan
+abbrev pub with_query : List Query → Option Plan → ℕ → List Query
+with_query book None at = book
+with_query book (Some plan) at = book ++ opened (length book + 1) plan at ∷ []
 
 -- the book after one more item, where `before` came before it
 abbrev pub book_after : Config → List Item → List Query → Item → List Query
-book_after c before book (Create text) = if has_slot c book then opened book (built (plan_for c text)) (changelog_time c before) else book
+book_after c before book (Create text) = if has_slot c book then with_query book (built (plan_for c text)) (changelog_time c before) else book
 book_after c before book (Delete n) = map (closed n (changelog_time c before)) book
 book_after c before book (Rec g) = book
 book_after c before book (Mark s t) = book

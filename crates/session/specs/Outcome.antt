@@ -1,7 +1,7 @@
 -- What taking an item adds to the answers and the outputs.
-use Rattle.std.specs.Prelude.{ℕ, ◌≡◌, ◌≢◌, ◌<◌, ◌==◌, if◌then◌else◌, Option, Some, None, List, [], ◌∷◌, ◌++◌, map}
-use Rattle.std.specs.List.{flat_map, AllByRecursion}
-use Rattle.std.specs.List.Sorted.{IsStrictlyIncreasing}
+pub use Rattle.as_base.specs.Pieces.{bytes_for, ArePieces}
+use Rattle.std.specs.Prelude.{ℕ, ◌≡◌, ◌<◌, Option, Some, None, List, [], ◌∷◌, ◌++◌}
+use Rattle.std.specs.List.{AllByRecursion}
 use Rattle.as_base.specs.declared.config.Config.{Config}
 use Rattle.as_base.specs.declared.item.Item.{Item}
 use Rattle.as_base.specs.declared.answer.Word.{Word}
@@ -10,14 +10,9 @@ use Rattle.as_base.specs.declared.answer.Answer.{Answer}
 use Rattle.as_base.specs.declared.answer.Piece.{Piece}
 use Rattle.as_base.specs.declared.answer.Fed.{Fed}
 use Rattle.as_base.specs.Times.{times}
-use Rattle.session.specs.Stage.{taken}
 use Rattle.session.specs.Book.{numbers}
-use Rattle.session.specs.Answers.{answer_by_rule, answer_to}
+use Rattle.session.specs.Answers.{answer_to}
 use Rattle.session.specs.View.{text_of}
-
--- the bytes that the pieces have for output n
-abbrev pub bytes_for : ℕ → List Piece → List ℕ
-bytes_for n pieces = flat_map (λ (p : Piece). if p.n == n then p.bytes else []) pieces
 
 -- the query that a word tells the creation of
 abbrev pub created_by : Word → List ℕ
@@ -36,17 +31,7 @@ pub record Adds (c : Config) (h h' : List Item) (queries : List ℕ) (pieces : L
   pub text : (n : ℕ) → text_of c h' n ≡ text_of c h n ++ bytes_for n pieces
   pub known : AllByRecursion (λ (p : Piece). 0 < times p.n (numbers c h')) pieces
 
--- What an item brings about by the rule after the items h: its answer, and the text that it makes due.
-pub record IsStep (c : Config) (h : List Item) (x : Item) (fed : Fed) : Type 0 where
-  pub answer : fed.answer ≡ answer_by_rule c h x
-  pub adds : Adds c h (h ++ x ∷ []) (created fed.answer) fed.pieces
-
--- What an item brings about after the items h, of which some may not be built.
+-- What an item brings about after the items h: its answer, and the text that it makes due.
 pub record IsFed (c : Config) (h : List Item) (x : Item) (fed : Fed) : Type 0 where
   pub answer : fed.answer ≡ answer_to c h x
-  pub adds : Adds c (taken c h) (taken c (h ++ x ∷ [])) (created fed.answer) fed.pieces
-
--- pieces stand by rising query number, and none is empty
-pub record ArePieces (pieces : List Piece) : Type 0 where
-  pub rising : IsStrictlyIncreasing (map (λ (p : Piece). p.n) pieces)
-  pub full : AllByRecursion (λ (p : Piece). p.bytes ≢ []) pieces
+  pub adds : Adds c h (h ++ x ∷ []) (created fed.answer) fed.pieces

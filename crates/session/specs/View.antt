@@ -1,14 +1,12 @@
 -- The view that a list of items gives, and the text that each output then has.
-use Rattle.std.specs.Prelude.{ℕ, ◌+◌, ◌==◌, if◌then◌else◌, List, [], ◌∷◌, length, map}
-use Rattle.std.specs.List.{flat_map}
+use Rattle.std.specs.Prelude.{ℕ, ◌+◌, if◌then◌else◌, List, [], ◌∷◌, length, map}
 use Rattle.as_base.specs.declared.config.Config.{Config}
 use Rattle.as_base.specs.declared.item.Record.{Record}
 use Rattle.as_base.specs.declared.item.Item.{Item}
 use Rattle.as_base.specs.declared.item.Item.TheVariants.{Rec, Mark, End, Create, Delete, Bad}
 use Rattle.as_base.specs.Stream.{streams}
-use Rattle.views.specs.Query.{Query}
 use Rattle.views.specs.View.{View}
-use Rattle.row_text.specs.RowText.{text}
+use Rattle.row_text.specs.RowText.{text_of as text_by}
 use Rattle.session.specs.Acceptance.{watermark}
 use Rattle.session.specs.Book.{book, accepts}
 use Rattle.session.specs.Answers.{walk}
@@ -32,4 +30,4 @@ view c h = record { queries = book c h; records = records c h; marks = map (wate
 
 -- The text that the output of query n has after the items `h`; nothing where the book has no such query.
 abbrev pub text_of : Config → List Item → ℕ → List ℕ
-text_of c h n = flat_map (λ (q : Query). if q.n == n then text (view c h) q else []) (book c h)
+text_of c h n = text_by (view c h) n

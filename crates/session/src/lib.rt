@@ -1,11 +1,14 @@
-//! The session: decides each item by lists.
+//! Sessions: what becomes of each item of the input, by those before it.
 #![tactic(auto)]
 
+mod decision;
 mod laws;
-mod pending;
-mod rows;
 mod selection;
 mod session;
 
-pub use laws::queries_are_numbered_in_order;
-pub use session::{Live, SLOTS, STREAMS, Session};
+pub use decision::Decision;
+pub use laws::{
+    last_ends_have_no_answer, live_queries_hold_slots, messages_are_what_views_take,
+    only_marks_and_ends_print, outputs_only_grow, passed_rows_stay, queries_are_numbered_in_order,
+};
+pub use session::{Clock, Seat, Session};

@@ -1,96 +1,100 @@
-ghost use Rattle.std.specs.Prelude.{◌≡◌, ◌<◌, ◌+◌, ◌^◌, [], ◌∷◌, ◌++◌, List, ℕ, false, nat_lt, length, map, IfOk, OnOk, Some, None};
-ghost use Rattle.std.specs.List.{range_with_len};
-ghost use Rattle.as_base.specs.declared.item.Given.{Given};
+ghost use Rattle.std.specs.Prelude.{ℕ, true, false, Ok, max, slice_index_or, slice_set, ◌≡◌, ◌<◌, ◌≤◌, ◌+◌, ◌^◌, ◌==◌, if◌then◌else◌, not, position, List, [], ◌∷◌, ◌++◌, length, map, IfOk, OnOk, OnErr, Some, None};
+ghost use Rattle.std.specs.List.{remove};
+ghost use Rattle.std.specs.Vec.{vec_capacity};
+ghost use Rattle.as_base.specs.declared.config.Config.{Config};
 ghost use Rattle.as_base.specs.declared.item.Item.{Item};
-ghost use Rattle.as_base.specs.declared.stream.StreamId.TheVariants.{A};
+ghost use Rattle.as_base.specs.declared.answer.Word.TheVariants as word;
+ghost use Rattle.as_base.specs.declared.message.Change.{Change};
 ghost use Rattle.as_base.specs.Range.{InRange, IsTime};
-ghost use Rattle.session.specs.Stage.{stage, is_built};
+ghost use Rattle.as_base.specs.Stream.{place_of};
+ghost use Rattle.slot_alloc.specs.Slots.{is_live, live_count};
 ghost use Rattle.session.specs.Book.{refusal_of_cause};
-ghost use Rattle.session.specs.Kept.{wants};
+ghost use Rattle.session.specs.Seats.{AreSeated};
 
-use crate::pending::{keep, take_passed};
-use crate::rows::pieces_of;
+use crate::decision::Decision;
 use crate::selection::selection_of;
-use as_base::{Answer, Cause, Fed, Given, Item, NoMemory, Pieces, Plan, StreamId, Text, Word};
+use as_base::{
+    Answer, Cause, Change, FOREVER, Given, Item, Msg, NoMemory, Plan, Record, StreamId, Text, Word,
+};
+use slot_alloc::{Full, Slots};
 use std::alloc::Global;
-use std::collections::VecDeque;
 
-/// How many streams are configured: stream a alone.
-pub const STREAMS: u8 = 1;
-
-/// How many queries may live at once.
-pub const SLOTS: u16 = 64;
-
-/// A query that lives: its number, the changelog time of its creation in ticks, and its plan, a selection from stream a.
-#[derive(Clone, Copy, Debug)]
-pub struct Live {
-    pub n: u64,
-    pub from: u64,
-    pub plan: Plan,
+/// Where a stream stands.
+#[derive(Clone, Copy, Debug, PartialEq, Eq)]
+pub struct Clock {
+    /// The greatest time of its records and watermarks up to its end, in ticks, or 0.
+    pub front: u64,
+    /// The greatest of these watermarks, in ticks, or 0.
+    pub mark: u64,
+    /// The stream has ended.
+    pub ended: bool,
 }
 
-impl Live {
-    /// The query wants the record, which is of stream a.
-    pub fn wants(&self, given: &Given) -> bool
-        ensures { result ≡ wants self.now given.now }
+impl Clock {
+    // The watermark of the stream, which is `FOREVER` from its end on.
+    fn watermark(&self) -> u64
+        ensures { result ≡ (if self.now.ended then 2 ^ 62 else self.now.mark) }
     {
-        self.from <= given.time && self.plan.left_bounds.holds(given)
+        if self.ended { FOREVER } else { self.mark }
     }
 }
 
-/// What is kept of the items taken so far: how many they are, the front and the watermark of stream a, the changelog
-/// time, the queries by number, and the accepted records that the watermark has not passed and that some query may
-/// want, by time. Times are in ticks, and none is above `FOREVER`.
+/// A query that lives, by its number, and its slot.
+#[derive(Clone, Copy, Debug, PartialEq, Eq)]
+pub struct Seat {
+    pub n: u64,
+    pub slot: u16,
+}
+
+/// What is kept of the items taken so far, which is all that decides the next one. It takes no more room as they grow.
 #[derive(Debug, Drop)]
 pub struct Session {
     alloc: Global,
+    /// How many streams are configured, the first of a to d: from 2 to 4.
+    pub streams: u8,
+    /// How many items were taken.
     pub items: u64,
-    pub front: u64,
-    pub mark: u64,
+    /// Where each of the four streams stands, in their order.
+    pub clocks: [Clock; 4],
+    /// The tick after all records and watermarks that count, or 0.
     pub changelog_time: u64,
-    pub queries: Vec<Live>,
-    pub pending: VecDeque<Given>,
-    ghost numbered: { map (λ q. q.n) queries.items ≡ range_with_len 1 (length queries.items) },
+    /// How many queries were made.
+    pub made: u64,
+    /// Which slots are live.
+    pub slots: Slots,
+    /// The queries that live, by number.
+    pub live: Vec<Seat>,
+    ghost configured: { (2 ≤ streams) × (streams ≤ 4) },
+    ghost few: { made ≤ items },
+    ghost seated: { AreSeated slots live.items },
+    ghost counted: { live_count slots ≡ length live.items },
+    ghost room: { length slots ≤ vec_capacity live },
 }
 
-// What an item that is refused brings about.
-fn refused(alloc: Global, line: u64, word: Word) -> Fed
-    ensures { result ≡ record { answer = Some (record { line = line; word = word }); pieces = [] } }
+// The place of a stream among the four.
+fn place_of(stream: StreamId) -> usize
+    ensures value { result ≡ place_of stream }
+    ensures bound { result < 4 }
 {
-    Fed {
-        answer: Some(Answer { line, word }),
-        pieces: Pieces::from_vec(Vec::new(alloc)),
+    stream as usize
+}
+
+// The word that refuses an item of a stream, if one does, which is the first of these; `last` where the item is behind.
+fn first_refusal(configured: bool, ended: bool, behind: bool, last: Word) -> Option<Word>
+    ensures { result ≡ (if not configured then Some word.Stranger
+        else (if ended then Some word.Ended else (if behind then Some last else None))) }
+{
+    if !configured {
+        return Some(Word::Stranger);
     }
-}
-
-// The item is one that is built: a record or a watermark of stream a, a creation, or a line in no form.
-fn is_built(item: &Item) -> bool
-    ensures { result ≡ is_built stage item.now }
-{
-    match item {
-        Item::Rec(given) => given.stream == StreamId::A,
-        Item::Mark(stream, _) => *stream == StreamId::A,
-        Item::Create(_) | Item::Bad(_) => true,
-        Item::End(_) | Item::Delete(_) => false,
+    if ended {
+        return Some(Word::Ended);
     }
-}
-
-// The time is below that of the front or the mark, which a record or a watermark may be at, but not below.
-fn is_below(time: u64, reached: u64) -> bool
-    ensures { result ≡ nat_lt time reached }
-{
-    time < reached
-}
-
-// Fewer queries live than there are slots.
-fn has_slot(queries: &[Live]) -> bool
-    ensures { result ≡ nat_lt (length queries.now) 64 }
-{
-    queries.len() < SLOTS as usize
+    if behind { Some(last) } else { None }
 }
 
 // The word that a line in no form is refused by.
-fn word_of(cause: Cause) -> Word
+fn refusal_of_cause(cause: Cause) -> Word
     ensures { result ≡ refusal_of_cause cause }
 {
     match cause {
@@ -99,175 +103,293 @@ fn word_of(cause: Cause) -> Word
     }
 }
 
-impl Session {
-    ghost use Rattle.session.specs.Stage.{taken};
-    ghost use Rattle.session.specs.Acceptance.{has_ended};
-    ghost use Rattle.session.specs.Shut.{shut};
-    ghost use Rattle.session.specs.Outcome.{Adds, IsStep, IsFed, ArePieces};
-    ghost use Rattle.session.specs.Session.{StandsAt, StandsFor};
+// The watermarks of the four streams.
+fn watermarks(clocks: &[Clock; 4]) -> [u64; 4]
+    ensures { result ≡ map (λ k. if k.ended then 2 ^ 62 else k.mark) clocks.now }
+{
+    clocks.map(|clock| clock.watermark())
+}
 
-    /// A session that has taken nothing.
-    pub fn new(alloc: Global) -> Session
-        ensures { StandsFor result [] }
+// The changelog time after a record or a watermark at this time.
+fn changelog_after(changelog: u64, time: u64) -> u64
+    requires { IsTime time }
+    ensures { result ≡ max changelog (time + 1) }
+{
+    changelog.max(time + 1)
+}
+
+// What is decided of a deletion.
+fn deleted(line: u64, n: u64, slot: u16, at: u64) -> Decision
+    ensures { result ≡ Decision.Acted (record { line = line; word = word.Deleted n at }) (Change.Closed n slot at) }
+{
+    let answer = Answer {
+        line,
+        word: Word::Deleted { n, at },
+    };
+    Decision::Acted(answer, Change::Closed { n, slot, at })
+}
+
+// Takes a seat away, and frees its slot, which is live.
+fn leave(live: &mut Vec<Seat>, slots: &mut Slots, place: usize) -> Seat
+    requires place { place < length live.old.items }
+    requires held { (d : Seat) → is_live slots.old (slice_index_or live.old.items place d).slot ≡ true }
+    ensures seat { result ≡ slice_index_or live.old.items place result }
+    ensures live { live.new.items ≡ remove live.old.items place }
+    ensures room { vec_capacity live.new ≡ vec_capacity live.old }
+    ensures slots { slots.new ≡ slice_set slots.old result.slot false }
+    ensures counted { live_count slots.new + 1 ≡ live_count slots.old }
+{
+    let seat = live.remove(place);
+    slots.give(seat.slot);
+    seat
+}
+
+// The place of a query among the live ones, if it lives.
+fn place_of_seat(live: &[Seat], n: u64) -> Option<usize>
+    ensures { result ≡ position (λ s. s.n == n) live.now }
+{
+    live.iter().position(|seat| seat.n == n)
+}
+
+impl Session {
+    ghost use Rattle.session.specs.Acceptance.{has_ended};
+    ghost use Rattle.session.specs.Book.{stream_refusal};
+    ghost use Rattle.session.specs.Decision.{IsDecided};
+    ghost use Rattle.session.specs.Planned.{plan_for, is_select};
+    ghost use Rattle.session.specs.Session.{clock_of, StandsFor};
+
+    /// A session that has taken nothing, for the first `streams` of the four streams, from 2 to 4, and with so many
+    /// slots, from 1 to 512: it makes room for a live query in each. The one refusal is `NoMemory`.
+    pub fn new(alloc: Global, streams: u8, slots: u16) -> Result<Session, NoMemory>
+        requires streams { (2 ≤ streams) × (streams ≤ 4) }
+        requires slots { (1 ≤ slots) × (slots ≤ 512) }
+        ensures { (c : Config) → c.streams ≡ streams → c.slots ≡ slots → IfOk result (λ s. StandsFor c s []) }
     {
-        Session {
-            alloc,
-            items: 0,
+        let clock = Clock {
             front: 0,
             mark: 0,
+            ended: false,
+        };
+        Ok(Session {
+            alloc,
+            streams,
+            items: 0,
+            clocks: [clock; 4],
             changelog_time: 0,
-            queries: Vec::new(alloc),
-            pending: VecDeque::new(alloc),
-        }
+            made: 0,
+            slots: Slots::new(slots),
+            live: Vec::with_capacity(alloc, usize::from(slots))?,
+        })
+    }
+
+    // Where the stream stands.
+    fn clock_of(&self, stream: StreamId) -> Clock
+        ensures { (c : Config) (h : List Item) → StandsFor c self.now h → result ≡ clock_of c h stream }
+    {
+        self.clocks[place_of(stream)]
+    }
+
+    // The word that refuses an item of the stream, if one does; `last` where the item is behind.
+    fn stream_refusal(&self, stream: StreamId, behind: bool, last: Word) -> Option<Word>
+        ensures { (c : Config) (h : List Item) → StandsFor c self.now h → result ≡ stream_refusal c h stream behind last }
+    {
+        let configured = place_of(stream) < usize::from(self.streams);
+        first_refusal(configured, self.ended(stream), behind, last)
     }
 
     // Takes a record.
-    fn take_record(&mut self, given: &Given) -> Result<Fed, NoMemory>
-        requires stream { given.now.stream ≡ A }
+    fn take_record(&mut self, given: &Given) -> Decision
         requires range { IsTime given.now.time }
         requires few { self.old.items < 2 ^ 62 }
-        ensures stands { (h : List Item) → StandsAt self.old h → IfOk result (λ fed.
-            StandsAt self.new (h ++ Item.Rec given.now ∷ []) × IsStep stage h (Item.Rec given.now) fed) }
-        ensures order { IfOk result (λ fed. ArePieces fed.pieces) }
-        ensures count { OnOk result (self.new.items ≡ self.old.items + 1) }
+        ensures stands { (c : Config) (h : List Item) → StandsFor c self.old h →
+            StandsFor c self.new (h ++ Item.Rec given.now ∷ []) × IsDecided c h (Item.Rec given.now) result }
+        ensures count { self.new.items ≡ self.old.items + 1 }
     {
+        let clock = self.clock_of(given.stream);
+        let refusal = self.stream_refusal(given.stream, given.time < clock.front, Word::Late);
         self.items += 1;
-        if is_below(given.time, self.front) {
-            return Ok(refused(self.alloc, self.items, Word::Late));
+        let line = self.items;
+        if let Some(word) = refusal {
+            return Decision::Told(Answer { line, word });
         }
-        keep(&self.queries, &mut self.pending, given)?;
-        self.front = given.time;
-        self.changelog_time = self.changelog_time.max(given.time + 1);
-        Ok(Fed {
-            answer: None,
-            pieces: Pieces::from_vec(Vec::new(self.alloc)),
-        })
+        self.clocks[place_of(given.stream)] = Clock {
+            front: given.time,
+            ..clock
+        };
+        self.changelog_time = changelog_after(self.changelog_time, given.time);
+        Decision::Pass(Msg::Rec(Record {
+            seq: line,
+            given: *given,
+        }))
     }
 
-    // Takes a watermark of stream a, which passes the kept records before it.
-    fn take_mark(&mut self, time: u64) -> Result<Fed, NoMemory>
+    // Takes a watermark of a stream.
+    fn take_mark(&mut self, stream: StreamId, time: u64) -> Decision
         requires range { IsTime time }
         requires few { self.old.items < 2 ^ 62 }
-        ensures stands { (h : List Item) → StandsAt self.old h → IfOk result (λ fed.
-            StandsAt self.new (h ++ Item.Mark A time ∷ []) × IsStep stage h (Item.Mark A time) fed) }
-        ensures order { IfOk result (λ fed. ArePieces fed.pieces) }
-        ensures count { OnOk result (self.new.items ≡ self.old.items + 1) }
+        ensures stands { (c : Config) (h : List Item) → StandsFor c self.old h →
+            StandsFor c self.new (h ++ Item.Mark stream time ∷ []) × IsDecided c h (Item.Mark stream time) result }
+        ensures count { self.new.items ≡ self.old.items + 1 }
     {
+        let clock = self.clock_of(stream);
+        let refusal = self.stream_refusal(stream, time < clock.mark, Word::Back);
         self.items += 1;
-        if is_below(time, self.mark) {
-            return Ok(refused(self.alloc, self.items, Word::Back));
+        let line = self.items;
+        if let Some(word) = refusal {
+            return Decision::Told(Answer { line, word });
         }
-        let passed = take_passed(self.alloc, &mut self.pending, time)?;
-        let pieces = pieces_of(self.alloc, &self.queries, &passed)?;
-        self.mark = time;
-        self.front = self.front.max(time);
-        self.changelog_time = self.changelog_time.max(time + 1);
-        Ok(Fed {
-            answer: None,
-            pieces,
+        self.clocks[place_of(stream)] = Clock {
+            front: clock.front.max(time),
+            mark: time,
+            ended: false,
+        };
+        self.changelog_time = changelog_after(self.changelog_time, time);
+        Decision::Pass(Msg::Advance {
+            wm: watermarks(&self.clocks),
         })
     }
 
-    // Takes a creation. Selections from stream a are the queries that are built.
-    fn take_creation(&mut self, text: &Text) -> Result<Fed, NoMemory>
+    // Takes the end of a stream.
+    fn take_end(&mut self, stream: StreamId) -> Decision
         requires few { self.old.items < 2 ^ 62 }
-        ensures stands { (h : List Item) → StandsAt self.old h → IfOk result (λ fed.
-            StandsAt self.new (h ++ Item.Create text.now ∷ []) × IsStep stage h (Item.Create text.now) fed) }
-        ensures order { IfOk result (λ fed. ArePieces fed.pieces) }
-        ensures count { OnOk result (self.new.items ≡ self.old.items + 1) }
+        ensures stands { (c : Config) (h : List Item) → StandsFor c self.old h →
+            StandsFor c self.new (h ++ Item.End stream ∷ []) × IsDecided c h (Item.End stream) result }
+        ensures count { self.new.items ≡ self.old.items + 1 }
+    {
+        let clock = self.clock_of(stream);
+        let refusal = self.stream_refusal(stream, false, Word::Ended);
+        self.items += 1;
+        let line = self.items;
+        if let Some(word) = refusal {
+            return Decision::Told(Answer { line, word });
+        }
+        self.clocks[place_of(stream)] = Clock {
+            ended: true,
+            ..clock
+        };
+        Decision::Pass(Msg::Advance {
+            wm: watermarks(&self.clocks),
+        })
+    }
+
+    // Takes the creation of a query with this plan.
+    fn open(&mut self, plan: Plan) -> Decision
+        requires few { self.old.items < 2 ^ 62 }
+        ensures stands { (c : Config) (h : List Item) (text : List ℕ) →
+            plan_for c text ≡ Ok plan → is_select plan.kind ≡ true → StandsFor c self.old h →
+            StandsFor c self.new (h ++ Item.Create text ∷ []) × IsDecided c h (Item.Create text) result }
+        ensures count { self.new.items ≡ self.old.items + 1 }
     {
         self.items += 1;
-        let selection = selection_of(self.alloc, text)?;
-        let plan = match selection {
-            Ok(plan) => plan,
-            Err(word) => return Ok(refused(self.alloc, self.items, word)),
+        let line = self.items;
+        let slot = match self.slots.take() {
+            Ok(slot) => slot,
+            Err(Full) => {
+                return Decision::Told(Answer {
+                    line,
+                    word: Word::Full,
+                });
+            }
         };
-        if !has_slot(&self.queries) {
-            return Ok(refused(self.alloc, self.items, Word::Full));
-        }
-        let n = self.queries.len() as u64 + 1;
+        self.made += 1;
+        let n = self.made;
         let at = self.changelog_time;
-        self.queries.push(Live { n, from: at, plan })?;
-        let answer = Answer {
-            line: self.items,
-            word: Word::Created { n, at },
+        self.live.push_reserved(Seat { n, slot });
+        Decision::Acted(
+            Answer {
+                line,
+                word: Word::Created { n, at },
+            },
+            Change::Opened { n, slot, at, plan },
+        )
+    }
+
+    // Takes a creation.
+    fn take_creation(&mut self, text: &Text) -> Result<Decision, NoMemory>
+        requires few { self.old.items < 2 ^ 62 }
+        ensures stands { (c : Config) (h : List Item) → StandsFor c self.old h → IfOk result (λ d.
+            StandsFor c self.new (h ++ Item.Create text.now ∷ []) × IsDecided c h (Item.Create text.now) d) }
+        ensures count { OnOk result (self.new.items ≡ self.old.items + 1) }
+        ensures kept { OnErr result (self.new ≡ self.old) }
+    {
+        match selection_of(self.alloc, text, self.streams)? {
+            Ok(plan) => Ok(self.open(plan)),
+            Err(word) => {
+                self.items += 1;
+                Ok(Decision::Told(Answer {
+                    line: self.items,
+                    word,
+                }))
+            }
+        }
+    }
+
+    // Takes a deletion.
+    fn take_deletion(&mut self, n: u64) -> Decision
+        requires few { self.old.items < 2 ^ 62 }
+        ensures stands { (c : Config) (h : List Item) → StandsFor c self.old h →
+            StandsFor c self.new (h ++ Item.Delete n ∷ []) × IsDecided c h (Item.Delete n) result }
+        ensures count { self.new.items ≡ self.old.items + 1 }
+    {
+        self.items += 1;
+        let line = self.items;
+        let Some(place) = place_of_seat(&self.live, n) else {
+            return Decision::Told(Answer {
+                line,
+                word: Word::Unknown,
+            });
         };
-        Ok(Fed {
-            answer: Some(answer),
-            pieces: Pieces::from_vec(Vec::new(self.alloc)),
-        })
+        let seat = leave(&mut self.live, &mut self.slots, place);
+        deleted(line, n, seat.slot, self.changelog_time)
     }
 
     // Takes a line in no form.
-    fn take_bad(&mut self, cause: Cause) -> Fed
+    fn take_bad(&mut self, cause: Cause) -> Decision
         requires few { self.old.items < 2 ^ 62 }
-        ensures stands { (h : List Item) → StandsAt self.old h →
-            StandsAt self.new (h ++ Item.Bad cause ∷ []) × IsStep stage h (Item.Bad cause) result }
-        ensures order { ArePieces result.pieces }
+        ensures stands { (c : Config) (h : List Item) → StandsFor c self.old h →
+            StandsFor c self.new (h ++ Item.Bad cause ∷ []) × IsDecided c h (Item.Bad cause) result }
         ensures count { self.new.items ≡ self.old.items + 1 }
     {
         self.items += 1;
-        refused(self.alloc, self.items, word_of(cause))
+        Decision::Told(Answer {
+            line: self.items,
+            word: refusal_of_cause(cause),
+        })
     }
 
-    // Takes an item that is yet to be built.
-    fn put_off(&mut self) -> Fed
-        requires few { self.old.items < 2 ^ 62 }
-        ensures stands { (h : List Item) (x : Item) → is_built stage x ≡ false → StandsFor self.old h →
-            StandsFor self.new (h ++ x ∷ []) × IsFed stage h x result }
-        ensures order { ArePieces result.pieces }
-        ensures count { self.new.items ≡ self.old.items + 1 }
-    {
-        self.items += 1;
-        refused(self.alloc, self.items, Word::Later)
-    }
-
-    /// Takes an item: its answer by the rule, and the pieces of text that it makes due, by rising query number and none
-    /// of them empty. After `NoMemory` the session is of no more use.
-    pub fn feed(&mut self, item: &Item) -> Result<Fed, NoMemory>
+    /// Takes an item, and decides it by the items before it. The one fault is `NoMemory`: a creation alone takes memory,
+    /// to read its text, and where there is none the session is as it was before. Only a deletion looks at each live
+    /// query; nothing else takes longer the more items were taken or queries made.
+    pub fn accept(&mut self, item: &Item) -> Result<Decision, NoMemory>
         requires range { InRange item.now }
         requires few { self.old.items < 2 ^ 62 }
-        ensures stands { (h : List Item) → StandsFor self.old h → IfOk result (λ fed.
-            StandsFor self.new (h ++ item.now ∷ []) × IsFed stage h item.now fed) }
-        ensures order { IfOk result (λ fed. ArePieces fed.pieces) }
+        ensures stands { (c : Config) (h : List Item) → StandsFor c self.old h → IfOk result (λ d.
+            StandsFor c self.new (h ++ item.now ∷ []) × IsDecided c h item.now d) }
         ensures count { OnOk result (self.new.items ≡ self.old.items + 1) }
+        ensures cause { OnErr result ((text : List ℕ) × (item.now ≡ Item.Create text)) }
+        ensures kept { OnErr result (self.new ≡ self.old) }
     {
-        if !is_built(item) {
-            return Ok(self.put_off());
-        }
         match item {
-            Item::Rec(given) => self.take_record(given),
-            Item::Mark(_, time) => self.take_mark(*time),
+            Item::Rec(given) => Ok(self.take_record(given)),
+            Item::Mark(stream, time) => Ok(self.take_mark(*stream, *time)),
+            Item::End(stream) => Ok(self.take_end(*stream)),
             Item::Create(text) => self.take_creation(text),
+            Item::Delete(n) => Ok(self.take_deletion(*n)),
             Item::Bad(cause) => Ok(self.take_bad(*cause)),
-            Item::End(_) | Item::Delete(_) => unreachable!(),
         }
     }
 
-    /// The pieces of text that the end of the streams that have not ended makes due, by rising query number and none of
-    /// them empty. The session stays as it was.
-    pub fn finish(&mut self) -> Result<Pieces, NoMemory>
-        ensures due { (h : List Item) → StandsFor self.old h → IfOk result (λ pieces.
-            Adds stage (taken stage h) (shut stage (taken stage h)) [] pieces) }
-        ensures order { IfOk result ArePieces }
-        ensures kept { (h : List Item) → StandsFor self.old h → IfOk result (λ _. StandsFor self.new h) }
-        ensures count { self.new.items ≡ self.old.items }
-    {
-        let passed = self.pending.make_contiguous();
-        pieces_of(self.alloc, &self.queries, passed)
-    }
-
-    /// The stream has ended: never, as long as ends are not taken.
+    /// The stream has ended.
     pub fn ended(&self, stream: StreamId) -> bool
-        ensures { (h : List Item) → StandsFor self.now h → result ≡ has_ended stage (taken stage h) stream }
+        ensures { (c : Config) (h : List Item) → StandsFor c self.now h → result ≡ has_ended c h stream }
     {
-        false
+        self.clocks[place_of(stream)].ended
     }
 
     /// How many items were taken.
     pub fn items(&self) -> u64
         ensures value { result ≡ self.now.items }
-        ensures stands { (h : List Item) → StandsFor self.now h → result ≡ length h }
+        ensures stands { (c : Config) (h : List Item) → StandsFor c self.now h → result ≡ length h }
     {
         self.items
     }

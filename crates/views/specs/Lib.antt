@@ -2,7 +2,12 @@ pub mod Query
 pub mod View
 pub mod Order
 pub mod Rows
+pub mod Message
+pub mod IsView
+pub use Rattle.as_words.specs.Prefix
 pub use Rattle.as_base.specs.declared.item.Record
+pub use Rattle.as_base.specs.declared.message.Change
+pub use Rattle.as_base.specs.declared.message.Msg
 pub use Rattle.as_base.specs.declared.query.Plan
 pub use Rattle.as_base.specs.declared.row.Row
 pub use Rattle.as_base.specs.declared.stream.StreamId

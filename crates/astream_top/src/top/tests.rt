@@ -1,6 +1,7 @@
 use super::*;
 use as_base::Bytes;
 use as_outside::{Entry, FreeGate, MemDesk};
+use as_words::append_decimal;
 use std::process::Abort;
 use std::test::Fail;
 
@@ -16,14 +17,28 @@ const THREE: &[u8] =
 const AFTER: &[u8] =
     b"create select from a\nrec a 5 1 0 0 0 0\ncreate select from a\nrec a 5 2 0 0 0 0\nmark a 6\n";
 
-// Items that come too late, and what is not built yet.
+// Items that come too late, and such of an ended stream.
 const REFUSED: &[u8] =
-    b"create select from a\nrec a 10 1 0 0 0 0\nrec a 9 1 0 0 0 0\nmark a 4\nmark a 3\nend a\nmark b 1\n";
+    b"create select from a\nrec a 10 1 0 0 0 0\nrec a 9 1 0 0 0 0\nmark a 4\nmark a 3\nend a\n\
+    rec a 11 1 0 0 0 0\nmark b 1\nend a\n";
 
-// Texts that are refused, and one with a bound.
-const TEXTS: &[u8] =
-    b"create select form a\ncreate join a a tumble 5\ncreate count by all from a tumble 0\ncreate\n\
-    create select from a where v1 > 4\nrec a 1 1 5 0 0 0\nrec a 2 1 4 0 0 0\n";
+// Refusals in their order, over two streams.
+const ORDER: &[u8] =
+    b"create select form a\ncreate join a a tumble 5\ncreate count by all from a tumble 0\ndelete 9\n\
+    create\ncreate select from a where v1 <\ncreate select from d\nrec d 1 1 0 0 0 0\nend a\n\
+    mark a 5\nmark b 7\nmark b 6\n";
+
+// The one slot is full, and free again from the deletion on.
+const FULL: &[u8] = b"create select from a\ncreate select from a\ndelete 1\ncreate select from a\n";
+
+// Two queries of one slot and one time, of which the second has the record.
+const REUSED: &[u8] =
+    b"create select from a\ndelete 1\ncreate select from a\nrec a 0 1 1 0 0 0\nmark a 1\n";
+
+// A deleted query of stream b, which its own watermark passes, and that of no other stream.
+const DELETED: &[u8] =
+    b"create select from b where v1 > 4\nrec b 5 1 9 0 0 0\nmark a 9\nrec b 6 1 4 0 0 0\ndelete 1\n\
+    rec b 7 1 5 0 0 0\nrec b 10 1 5 0 0 0\nmark b 8\n";
 
 // A desk over the input, whose pulls go by the cuts; if a call is named, it fails with nothing added.
 fn desk(
@@ -64,15 +79,15 @@ fn said(alloc: Global, log: &[Entry]) -> Result<Vec<u8>, Fail> {
     Ok(all)
 }
 
-// What output 1 holds, by the log: nothing told where it was not begun.
-fn held(alloc: Global, log: &[Entry]) -> Result<Vec<u8>, Fail> {
+// What output n holds, by the log.
+fn held(alloc: Global, log: &[Entry], n: u64) -> Result<Vec<u8>, Fail> {
     let mut all = b"not begun".to_vec(alloc)?;
     for entry in log {
         match entry {
-            Entry::Begun(1) => all.clear(),
-            Entry::Put(1, bytes) | Entry::PutFailed(1, bytes) => all.extend_from_slice(
-                bytes.as_slice(),
-            )?,
+            Entry::Begun(m) if *m == n => all.clear(),
+            Entry::Put(m, bytes) | Entry::PutFailed(m, bytes) if *m == n => {
+                all.extend_from_slice(bytes.as_slice())?;
+            }
             _ => {}
         }
     }
@@ -82,7 +97,7 @@ fn held(alloc: Global, log: &[Entry]) -> Result<Vec<u8>, Fail> {
 // The desk's log has these answers, and this in output 1.
 fn has(alloc: Global, desk: &MemDesk, answers: &[u8], output: &[u8]) -> Result<bool, Fail> {
     let log = desk.log();
-    Ok(said(alloc, log)?.as_slice() == answers && held(alloc, log)?.as_slice() == output)
+    Ok(said(alloc, log)?.as_slice() == answers && held(alloc, log, 1)?.as_slice() == output)
 }
 
 // These words over the input end well, say this, and leave this in output 1.
@@ -110,8 +125,12 @@ fn inputs_are_answered_by_the_rule(rt: HostRuntime) -> Result<(), Fail> {
     let three = b"1 created 1 at 0\n3 created 2 at 2\n6 created 3 at 3\ndone 8\n";
     let rows_of_three = b"1 7 1 0 0 0\n2 7 2 0 0 0\n2 7 3 0 0 0\n3 7 4 0 0 -5\n";
     let after = b"1 created 1 at 0\n3 created 2 at 6\ndone 5\n";
-    let refused = b"1 created 1 at 0\n3 late\n5 back\n6 later\n7 later\ndone 7\n";
-    let texts = b"1 syntax 2\n2 twin\n3 window\n4 syntax 1\n5 created 1 at 0\ndone 7\n";
+    let refused = b"1 created 1 at 0\n3 late\n5 back\n7 ended\n9 ended\ndone 9\n";
+    let order =
+        b"1 syntax 2\n2 twin\n3 window\n4 unknown\n5 syntax 1\n6 syntax 7\n7 stranger\n8 stranger\n\
+        10 ended\n12 back\ndone 12\n";
+    let later = b"1 later\n2 created 1 at 0\ndone 2\n";
+    let deleted = b"1 created 1 at 0\n5 deleted 1 at 10\ndone 8\n";
     answers(&rt, alloc, "run", &long, malformed, b"not begun")?;
     answers(&rt, alloc, "run", THREE, three, rows_of_three)?;
     answers(
@@ -123,7 +142,94 @@ fn inputs_are_answered_by_the_rule(rt: HostRuntime) -> Result<(), Fail> {
         b"5 1 0 0 0 0\n5 2 0 0 0 0\n",
     )?;
     answers(&rt, alloc, "run", REFUSED, refused, b"10 1 0 0 0 0\n")?;
-    answers(&rt, alloc, "run", TEXTS, texts, b"1 1 5 0 0 0\n")
+    answers(&rt, alloc, "run --streams 2", ORDER, order, b"not begun")?;
+    answers(
+        &rt,
+        alloc,
+        "run",
+        b"create count by all from a tumble 5\ncreate select from a\n",
+        later,
+        b"",
+    )?;
+    answers(
+        &rt,
+        alloc,
+        "run",
+        DELETED,
+        deleted,
+        b"5 1 9 0 0 0\n7 1 5 0 0 0\n",
+    )
+}
+
+#[test]
+fn a_slot_has_one_query_after_another(rt: HostRuntime) -> Result<(), Fail> {
+    let alloc = rt.alloc();
+    let full = b"1 created 1 at 0\n2 full\n3 deleted 1 at 0\n4 created 2 at 0\ndone 4\n";
+    let reused = b"1 created 1 at 0\n2 deleted 1 at 0\n3 created 2 at 0\ndone 5\n";
+    answers(&rt, alloc, "run --slots 1", FULL, full, b"")?;
+    answers(&rt, alloc, "run --slots 1", REUSED, reused, b"")?;
+    let mut desk = desk(alloc, REUSED, &[], None)?;
+    called(&rt, alloc, &mut desk, "run --slots 1")?;
+    assert!(rt; held(alloc, desk.log(), 2)?.as_slice() == b"0 1 1 0 0 0\n".as_slice());
+    Ok(())
+}
+
+// Appends a line of this word and number.
+fn push_line(out: &mut Vec<u8>, word: &[u8], n: u64) -> Result<(), Fail> {
+    out.extend_from_slice(word)?;
+    append_decimal(n, out)?;
+    Ok(out.push(b'\n')?)
+}
+
+// All slots are taken, one creation is refused, query 40 is deleted, and a last query has its slot and its record.
+fn reuses_one_of<R: Threads + Sync + Abort>(
+    rt: &R,
+    alloc: Global,
+    words: &str,
+    slots: u16,
+) -> Result<(), Fail> {
+    let slots = u64::from(slots);
+    let mut input = Vec::new(alloc);
+    for _ in 0..slots + 1 {
+        input.extend_from_slice(b"create select from a\n")?;
+    }
+    push_line(&mut input, b"delete ", 40)?;
+    input.extend_from_slice(b"create select from a\nrec a 3 1 0 0 0 0\nmark a 4\n")?;
+    let mut last = Vec::new(alloc);
+    append_decimal(slots + 3, &mut last)?;
+    last.extend_from_slice(b" created ")?;
+    append_decimal(slots + 1, &mut last)?;
+    last.extend_from_slice(b" at 0\n")?;
+    push_line(&mut last, b"done ", slots + 5)?;
+    let mut desk = desk(alloc, &input, &[], None)?;
+    called(rt, alloc, &mut desk, words)?;
+    assert!(rt; said(alloc, desk.log())?.ends_with(&last));
+    assert!(rt; held(alloc, desk.log(), 40)?.is_empty());
+    assert!(rt; held(alloc, desk.log(), slots + 1)?.as_slice() == b"3 1 0 0 0 0\n".as_slice());
+    Ok(())
+}
+
+#[test]
+fn a_slot_of_many_is_used_again(rt: HostRuntime) -> Result<(), Fail> {
+    reuses_one_of(&rt, rt.alloc(), "run", 64)?;
+    reuses_one_of(&rt, rt.alloc(), "run --slots 512", 512)
+}
+
+// These words are no call, and nothing is touched.
+fn is_usage<R: Threads + Sync + Abort>(rt: &R, alloc: Global, words: &str) -> Result<(), Fail> {
+    let mut desk = desk(alloc, PASSED, &[], None)?;
+    let report = called(rt, alloc, &mut desk, words)?;
+    assert!(rt; report.status == Status::Usage && desk.log().is_empty());
+    Ok(())
+}
+
+#[test]
+fn other_words_touch_nothing(rt: HostRuntime) -> Result<(), Fail> {
+    let alloc = rt.alloc();
+    is_usage(&rt, alloc, "")?;
+    is_usage(&rt, alloc, "run --slots 0")?;
+    is_usage(&rt, alloc, "run --slots 4 --slots 4")?;
+    is_usage(&rt, alloc, "run --lane=1")
 }
 
 #[test]
@@ -253,7 +359,13 @@ fn a_row_at_the_mark_waits_for_the_end(rt: HostRuntime) -> Result<(), Fail> {
 // What a run that takes at most ten bytes reports.
 fn within_ten(alloc: Global, input: &[u8]) -> Result<(Status, u64), Fail> {
     let mut desk = desk(alloc, input, &[], None)?;
-    let report = run_within(alloc, &mut desk, 10);
+    let config = Config {
+        streams: 4,
+        slots: 64,
+        parts: 4,
+        lane: 1024,
+    };
+    let report = run_within(alloc, &mut desk, config, 10);
     Ok((report.status, report.lines))
 }
 

@@ -1,24 +1,28 @@
-use Rattle.std.proofs.Common.{◌+◌, [], ◌∷◌, ◌++◌, None, sym, ap, subst, subst₂, ◌∙◌}
-use Rattle.std.proofs.lemmas.Bool.{ltb-true, ltb-false}
+use Rattle.std.proofs.Common.{◌≡◌, ◌+◌, nat_lt, set, Some, None, [], ◌∷◌, ◌++◌, sym, ap, ap₂, subst₂, ◌∙◌}
+use Rattle.as_base.specs.declared.answer.Word.TheVariants.{Late}
 use Rattle.as_base.specs.declared.item.Item.TheVariants.{Rec}
-use Rattle.session.specs.Stage.{stage}
-use Rattle.session.specs.Kept.{kept_with}
-use Rattle.session.specs.Outcome.{IsStep}
-use Rattle.session.specs.Session.{Stands}
-use Rattle.session.proofs.StepLaws.{late-step, kept-step}
+use Rattle.session.specs.declared.session.Clock.{Clock}
+use Rattle.session.specs.Book.{stream_refusal, refusal}
+use Rattle.session.proofs.StepLaws.{Stands, stands-in, stands-out, refused-record, record-step}
 use Rattle.session.proofs.session.Session.take_record.Goals as goal
 
-pub returns-then-is_below-clause-stands : goal.returns-then-is_below-clause-stands
-returns-then-is_below-clause-stands c = λ h s.
-    let p = late-step h c.args.given.now _ _ _ _ _ _ s c.requires.stream c.requires.range (ltb-true c.args.given.now.time c.args.self.now.front (sym c.is_below.ensures ∙ c.if-is_below.true)) in
-    (p.0, subst (IsStep stage h (Rec c.args.given.now)) (sym c.refused.ensures) p.1)
+pub returns-in-Some-clause-stands : goal.returns-in-Some-clause-stands
+returns-in-Some-clause-stands c = λ config h s.
+    let g = c.args.given.now in
+    let e : refusal config h (Rec g) ≡ Some c.in-Some.word =
+    sym (c.in-Some.ensures config h s ∙ ap (λ (k : Clock). stream_refusal config h g.stream (nat_lt g.time k.front) Late) (c.clock_of-clock.ensures config h s)) in
+    let p = refused-record g c.in-Some.word (stands-in s) e in
+    (stands-out _ _ _ p.0, p.1)
 
 pub returns-clause-stands : goal.returns-clause-stands
-returns-clause-stands c = λ h s.
-    let given = c.args.given.now in
+returns-clause-stands c = λ config h s.
+    let g = c.args.given.now in
     let old = c.args.self.now in
-    let kept = c.in_ok-keep.ensures ∙ ap (λ l. kept_with l old.pending.items given) c.deref.ensures.value in
-    let p = kept-step h given _ _ _ _ _ _ s c.requires.stream c.requires.range (ltb-false given.time old.front (sym c.is_below.ensures ∙ c.if-is_below.false)) in (
-      subst₂ (λ t l. Stands (h ++ Rec given ∷ []) (old.items + 1) given.time old.mark t old.queries.items l) (sym c.max-self.ensures) (sym kept) p.0,
-      subst (λ l. IsStep stage h (Rec given) (record { answer = None; pieces = l })) (sym (c.from_vec.ensures ∙ c.new.ensures.items)) p.1,
+    let e : refusal config h (Rec g) ≡ None =
+    sym (c.in_default.ensures config h s ∙ ap (λ (k : Clock). stream_refusal config h g.stream (nat_lt g.time k.front) Late) (c.clock_of-clock.ensures config h s)) in
+    let p = record-step g (stands-in s) e in (
+      stands-out _ _ _ (subst₂ (λ clocks time. Stands config (h ++ Rec g ∷ []) old.streams (old.items + 1) clocks time old.made old.slots old.live.items)
+          (ap₂ (λ i (k : Clock). set old.clocks i (record { front = g.time; mark = k.mark; ended = k.ended })) (sym c.place_of.ensures.value) (sym (c.clock_of-clock.ensures config h s)))
+          (sym c.changelog_after-self.ensures) p.0),
+      p.1,
     )

@@ -1,0 +1,48 @@
+ghost use Rattle.std.specs.Prelude.{◌≡◌};
+ghost use Rattle.options.specs.Options.{name_of, span_of};
+
+/// An option that takes a number.
+#[derive(Clone, Copy, Debug, PartialEq, Eq)]
+pub enum NumberOption {
+    /// `--streams`: how many streams are read, 2 to 4; 4 where it is not given.
+    Streams,
+    /// `--slots`: how many queries may live at once, 1 to 512; 64 where it is not given.
+    Slots,
+}
+
+/// Which numbers an option takes.
+#[derive(Clone, Copy, Debug)]
+pub struct Span {
+    pub least: u64,
+    pub greatest: u64,
+    /// The number where the option is not given; `None` where it has to be.
+    pub default: Option<u64>,
+}
+
+/// The name of the option.
+pub fn name_of(option: NumberOption) -> &'static [u8]
+    ensures { result.now ≡ name_of option }
+{
+    match option {
+        NumberOption::Streams => b"--streams",
+        NumberOption::Slots => b"--slots",
+    }
+}
+
+/// Which numbers the option takes.
+pub fn span_of(option: NumberOption) -> Span
+    ensures { result ≡ span_of option }
+{
+    match option {
+        NumberOption::Streams => Span {
+            least: 2,
+            greatest: 4,
+            default: Some(4),
+        },
+        NumberOption::Slots => Span {
+            least: 1,
+            greatest: 512,
+            default: Some(64),
+        },
+    }
+}
