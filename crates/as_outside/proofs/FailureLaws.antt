@@ -1,11 +1,11 @@
--- Which calls of a log failed, along `++`, and what the last one that failed says of the counts.
-use Rattle.std.proofs.Common.{ℕ, ◌≡◌, ◌+◌, false, true≢false, List, [], ◌∷◌, ◌++◌, refl, sym, ap, ◌∙◌, arith, append_assoc}
-use Rattle.std.specs.List.{sum_by}
+-- Which calls of a log failed, along `++`.
+use Rattle.std.proofs.Common.{ℕ, ◌≡◌, ◌+◌, false, true≢false, List, [], ◌∷◌, ◌++◌, refl, arith}
 use Rattle.std.proofs.lemmas.List.Sums.{sum_by-append, sum_by-cons}
 use Rattle.as_outside.specs.declared.entry.Entry.{Entry}
-use Rattle.as_outside.specs.declared.entry.Entry.TheVariants.{PullFailed, SayFailed, NoteFailed, BeginFailed, PutFailed}
-use Rattle.as_outside.specs.Failures.{is_failure, IsFaultless, EndsWith, failed_on, failures, say_failed_by, say_failures, note_failed_by, note_failures, pull_failed_by, pull_failures}
-use Rattle.as_outside.proofs.EntryLaws.{HasNo-append}
+use Rattle.as_outside.specs.declared.entry.Entry.TheVariants.{PullFailed, NoteFailed}
+use Rattle.as_outside.specs.Entries.{HasNo}
+use Rattle.as_outside.specs.Log.{is_cue}
+use Rattle.as_outside.specs.Failures.{failed_on, failures, say_failed_by, say_failures, note_failed_by, note_failures, pull_failed_by, pull_failures}
 
 pub failures-append : (n : ℕ) (a b : List Entry) → failures n (a ++ b) ≡ failures n a + failures n b
 failures-append n a b = sum_by-append (failed_on n) a b
@@ -22,45 +22,20 @@ note_failures-append a b = sum_by-append note_failed_by a b
 pub pull_failures-append : (a b : List Entry) → pull_failures (a ++ b) ≡ pull_failures a + pull_failures b
 pull_failures-append a b = sum_by-append pull_failed_by a b
 
-pub IsFaultless-append : (a b : List Entry) → IsFaultless a → IsFaultless b → IsFaultless (a ++ b)
-IsFaultless-append a b ha hb = HasNo-append is_failure a b ha hb
+-- calls that are no cues fail as none
 
-pub EndsWith-after : (a b : List Entry) (e : Entry) → IsFaultless a → EndsWith b e → EndsWith (a ++ b) e
-EndsWith-after a b e fine h = record {
-  before = a ++ h.before;
-  last = ap (λ l. a ++ l) h.last ∙ sym (append_assoc a h.before (e ∷ []));
-  faultless = IsFaultless-append a h.before fine h.faultless;
-}
+not_pull : (e : Entry) → is_cue e ≡ false → pull_failed_by e ≡ 0
+not_pull PullFailed quiet = absurd (true≢false quiet)
+not_pull _ quiet = refl
 
--- each count is of failed calls alone
-pub failed_on-none : (n : ℕ) (e : Entry) → is_failure e ≡ false → failed_on n e ≡ 0
-failed_on-none n (BeginFailed m) fine = absurd (true≢false fine)
-failed_on-none n (PutFailed m bytes) fine = absurd (true≢false fine)
-failed_on-none n _ fine = refl
+not_note : (e : Entry) → is_cue e ≡ false → note_failed_by e ≡ 0
+not_note (NoteFailed bytes) quiet = absurd (true≢false quiet)
+not_note _ quiet = refl
 
-pub say_failed_by-none : (e : Entry) → is_failure e ≡ false → say_failed_by e ≡ 0
-say_failed_by-none (SayFailed bytes) fine = absurd (true≢false fine)
-say_failed_by-none _ fine = refl
+pub pull_failures-quiet : (log : List Entry) → HasNo is_cue log → pull_failures log ≡ 0
+pull_failures-quiet [] quiet = refl
+pull_failures-quiet (e ∷ log) quiet = omega (arith, sum_by-cons pull_failed_by e log, not_pull e quiet.0, pull_failures-quiet log quiet.1)
 
-pub note_failed_by-none : (e : Entry) → is_failure e ≡ false → note_failed_by e ≡ 0
-note_failed_by-none (NoteFailed bytes) fine = absurd (true≢false fine)
-note_failed_by-none _ fine = refl
-
-pub pull_failed_by-none : (e : Entry) → is_failure e ≡ false → pull_failed_by e ≡ 0
-pull_failed_by-none PullFailed fine = absurd (true≢false fine)
-pull_failed_by-none _ fine = refl
-
--- So it is 0 where none failed, and of calls that end with the one that failed it counts that one.
-module _ (count : Entry → ℕ) (none : (e : Entry) → is_failure e ≡ false → count e ≡ 0) where
-  pub none_counted : (calls : List Entry) → IsFaultless calls → sum_by count calls ≡ 0
-  none_counted [] fine = refl
-  none_counted (e ∷ calls) fine = omega (arith, sum_by-cons count e calls, none e fine.0, none_counted calls fine.1)
-
-  pub last_counted : (calls : List Entry) (e : Entry) → EndsWith calls e → sum_by count calls ≡ count e
-  last_counted calls e ends = omega (
-    arith,
-    ap (sum_by count) ends.last,
-    sum_by-append count ends.before (e ∷ []),
-    sum_by-cons count e [],
-    none_counted ends.before ends.faultless,
-  )
+pub note_failures-quiet : (log : List Entry) → HasNo is_cue log → note_failures log ≡ 0
+note_failures-quiet [] quiet = refl
+note_failures-quiet (e ∷ log) quiet = omega (arith, sum_by-cons note_failed_by e log, not_note e quiet.0, note_failures-quiet log quiet.1)

@@ -62,28 +62,39 @@ Counts-append (suc f) (suc g) a b c first second = record {
 }
 
 -- no count of an output falls
-grows : (calls : List Entry) (old new : ℕ → ℕ) → CountsOutputs calls old new → (n : ℕ) → old n ≤ new n
-grows calls old new h n = ⊎_elim (λ apart. go (failures n calls) refl apart) (λ all. (all.2 n).0) h.apart
+grows : (failed old new : ℕ → ℕ) → CountsOutputs failed old new → (n : ℕ) → old n ≤ new n
+grows failed old new h n = ⊎_elim (λ apart. go (failed n) refl apart) (λ all. (all.2 n).0) h.apart
   where
-    go : (k : ℕ) → failures n calls ≡ k → ((m : ℕ) → failures m calls ≡ 0 → new m ≡ old m) → old n ≤ new n
+    go : (k : ℕ) → failed n ≡ k → ((m : ℕ) → failed m ≡ 0 → new m ≡ old m) → old n ≤ new n
     go zero is apart = omega (arith, apart n is)
     go (suc k) is apart = (h.rose n (omega (arith, is))).0
 
-CountsOutputs-append : (xs ys : List Entry) (a b c : ℕ → ℕ) → CountsOutputs xs a b → CountsOutputs ys b c → CountsOutputs (xs ++ ys) a c
-CountsOutputs-append xs ys a b c first second = record {
-  rose = λ n some. go n (failures n xs) refl some;
+CountsOutputs-append : (f g all a b c : ℕ → ℕ) → ((n : ℕ) → all n ≡ f n + g n) → CountsOutputs f a b → CountsOutputs g b c → CountsOutputs all a c
+CountsOutputs-append f g all a b c sum first second = record {
+  rose = λ n some. go n (f n) refl some;
   apart = ⊎_elim
       (λ one. ⊎_elim
-      (λ two. inl (λ n none. two n (omega (arith, none, failures-append n xs ys)) ∙ one n (omega (arith, none, failures-append n xs ys))))
-      (λ all. inr (all.0, omega (arith, failures-append all.0 xs ys, all.1), λ n. Rose-after (a n) (b n) (c n) (grows xs a b first n) (all.2 n)))
+      (λ two. inl (λ n none. two n (omega (arith, none, sum n)) ∙ one n (omega (arith, none, sum n))))
+      (λ rest. inr (rest.0, omega (arith, sum rest.0, rest.1), λ n. Rose-after (a n) (b n) (c n) (grows f a b first n) (rest.2 n)))
       second.apart)
-      (λ all. inr (all.0, omega (arith, failures-append all.0 xs ys, all.1), λ n. Rose-before (a n) (b n) (c n) (all.2 n) (grows ys b c second n)))
+      (λ rest. inr (rest.0, omega (arith, sum rest.0, rest.1), λ n. Rose-before (a n) (b n) (c n) (rest.2 n) (grows g b c second n)))
       first.apart;
 }
   where
-    go : (n : ℕ) (k : ℕ) → failures n xs ≡ k → 0 < failures n (xs ++ ys) → Rose (a n) (c n)
-    go n zero is some = Rose-after (a n) (b n) (c n) (grows xs a b first n) (second.rose n (omega (arith, is, some, failures-append n xs ys)))
-    go n (suc k) is some = Rose-before (a n) (b n) (c n) (first.rose n (omega (arith, is))) (grows ys b c second n)
+    go : (n : ℕ) (k : ℕ) → f n ≡ k → 0 < all n → Rose (a n) (c n)
+    go n zero is some = Rose-after (a n) (b n) (c n) (grows f a b first n) (second.rose n (omega (arith, is, some, sum n)))
+    go n (suc k) is some = Rose-before (a n) (b n) (c n) (first.rose n (omega (arith, is))) (grows g b c second n)
+
+-- the same counts, told otherwise
+pub CountsOutputs-same : (f g old new : ℕ → ℕ) → ((n : ℕ) → g n ≡ f n) → CountsOutputs f old new → CountsOutputs g old new
+CountsOutputs-same f g old new same h = record {
+  rose = λ n some. h.rose n (omega (arith, same n, some));
+  apart = ⊎_elim (λ one. inl (λ n none. one n (omega (arith, same n, none)))) (λ rest. inr (rest.0, omega (arith, same rest.0, rest.1), rest.2)) h.apart;
+}
+
+-- no call on an output failed, and their counts stay
+untouched : (old new : ℕ → ℕ) → ((m : ℕ) → new m ≡ old m) → CountsOutputs (λ _. 0) old new
+untouched old new same = record { rose = λ m some. absurd (omega (arith, some)); apart = inl (λ m _. same m) }
 
 -- no call changes nothing
 pub makes_none : (a : Seen) → Makes a a []
@@ -93,7 +104,7 @@ makes_none a = record {
   says = kept _ _ refl;
   notes = kept _ _ refl;
   pulls = kept _ _ refl;
-  outputs = record { rose = λ n some. absurd (omega (arith, some)); apart = inl (λ n _. refl) };
+  outputs = untouched _ _ (λ n. refl);
 }
 
 -- The one law: calls and then calls.
@@ -104,7 +115,7 @@ makes_after a b c xs ys first second = record {
   says = subst (λ f. Counts f a.faults.say c.faults.say) (sym (say_failures-append xs ys)) (Counts-append (say_failures xs) (say_failures ys) _ _ _ first.says second.says);
   notes = subst (λ f. Counts f a.faults.note c.faults.note) (sym (note_failures-append xs ys)) (Counts-append (note_failures xs) (note_failures ys) _ _ _ first.notes second.notes);
   pulls = subst (λ f. Counts f a.faults.pull c.faults.pull) (sym (pull_failures-append xs ys)) (Counts-append (pull_failures xs) (pull_failures ys) _ _ _ first.pulls second.pulls);
-  outputs = CountsOutputs-append xs ys _ _ _ first.outputs second.outputs;
+  outputs = CountsOutputs-append (λ n. failures n xs) (λ n. failures n ys) _ _ _ _ (λ n. failures-append n xs ys) first.outputs second.outputs;
 }
 
 -- a number is itself
@@ -145,7 +156,7 @@ module _ (old new : Seen) (says : new.faults.say ≡ old.faults.say) (notes : ne
     says = kept _ _ says;
     notes = kept _ _ notes;
     pulls = kept _ _ pulls;
-    outputs = record { rose = λ m some. absurd (omega (arith, some)); apart = inl (λ m _. outputs m) };
+    outputs = untouched _ _ outputs;
   }
 
 module _ (front : List ℕ) (old new : Seen) (left : new.left ≡ old.left) (pulls : new.faults.pull ≡ old.faults.pull) (outputs : (m : ℕ) → new.faults.output m ≡ old.faults.output m) where
@@ -158,7 +169,7 @@ module _ (front : List ℕ) (old new : Seen) (left : new.left ≡ old.left) (pul
     says = raised _ _ rose;
     notes = kept _ _ notes;
     pulls = kept _ _ pulls;
-    outputs = record { rose = λ m some. absurd (omega (arith, some)); apart = inl (λ m _. outputs m) };
+    outputs = untouched _ _ outputs;
   }
 
   -- the same of a note
@@ -170,5 +181,5 @@ module _ (front : List ℕ) (old new : Seen) (left : new.left ≡ old.left) (pul
     says = kept _ _ says;
     notes = raised _ _ rose;
     pulls = kept _ _ pulls;
-    outputs = record { rose = λ m some. absurd (omega (arith, some)); apart = inl (λ m _. outputs m) };
+    outputs = untouched _ _ outputs;
   }

@@ -1,28 +1,12 @@
 -- Which calls of a log failed, and how often calls of each kind did.
-use Rattle.std.specs.Prelude.{ℕ, ◌≡◌, ◌==◌, if◌then◌else◌, Bool, true, false, List, [], ◌∷◌, ◌++◌}
+use Rattle.std.specs.Prelude.{ℕ, ◌≡◌, ◌==◌, if◌then◌else◌, List, [], ◌∷◌, ◌++◌}
 use Rattle.std.specs.List.{sum_by}
 use Rattle.as_outside.specs.declared.entry.Entry.{Entry}
 use Rattle.as_outside.specs.declared.entry.Entry.TheVariants.{PullFailed, SayFailed, NoteFailed, BeginFailed, PutFailed}
-use Rattle.as_outside.specs.Entries.{HasNo}
 
--- the call failed
-abbrev pub is_failure : Entry → Bool
-is_failure PullFailed = true
-is_failure (SayFailed bytes) = true
-is_failure (NoteFailed bytes) = true
-is_failure (BeginFailed n) = true
-is_failure (PutFailed n bytes) = true
-is_failure _ = false
-
--- none of the calls failed
-abbrev pub IsFaultless : List Entry → Type 0
-IsFaultless calls = HasNo is_failure calls
-
--- The last call is this one, and none before it failed.
-pub record EndsWith (calls : List Entry) (e : Entry) : Type 0 where
-  pub before : List Entry
-  pub last : calls ≡ before ++ e ∷ []
-  pub faultless : IsFaultless before
+-- The last call is this one.
+abbrev pub EndsWith : List Entry → Entry → Type 0
+EndsWith calls e = (before : List Entry) × (calls ≡ before ++ e ∷ [])
 
 -- 1 where the call is a failed begin or put of output n
 abbrev pub failed_on : ℕ → Entry → ℕ

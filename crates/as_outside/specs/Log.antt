@@ -37,6 +37,14 @@ is_note _ = false
 abbrev pub is_cue : Entry → Bool
 is_cue e = is_pull e || is_note e
 
+-- the call is a begin of an output or a put on one, failed or not
+abbrev pub is_on_output : Entry → Bool
+is_on_output (Begun n) = true
+is_on_output (BeginFailed n) = true
+is_on_output (Put n bytes) = true
+is_on_output (PutFailed n bytes) = true
+is_on_output _ = false
+
 -- 1 where the call is a begin of output n, failed or not
 abbrev pub begun_by : ℕ → Entry → ℕ
 begun_by n (Begun m) = if m == n then 1 else 0

@@ -35,15 +35,15 @@ pub record Counts (failed old new : ℕ) : Type 0 where
   pub stays : failed ≡ 0 → new ≡ old
   pub rose : 0 < failed → Rose old new
 
--- No output but those that the calls failed on has another count; or, for want of memory to tell outputs apart, all rose.
-abbrev pub KeepsApart : List Entry → (ℕ → ℕ) → (ℕ → ℕ) → Type 0
-KeepsApart calls old new = ((n : ℕ) → failures n calls ≡ 0 → new n ≡ old n)
-    ⊎ ((m : ℕ) × (0 < failures m calls) × ((n : ℕ) → Rose (old n) (new n)))
+-- No output has another count but those on which calls failed, so many on each; or, for want of memory to tell outputs
+-- apart, all rose.
+abbrev pub KeepsApart : (ℕ → ℕ) → (ℕ → ℕ) → (ℕ → ℕ) → Type 0
+KeepsApart failed old new = ((n : ℕ) → failed n ≡ 0 → new n ≡ old n) ⊎ ((m : ℕ) × (0 < failed m) × ((n : ℕ) → Rose (old n) (new n)))
 
--- The count of an output rose where a call on it failed, and outputs are kept apart.
-pub record CountsOutputs (calls : List Entry) (old new : ℕ → ℕ) : Type 0 where
-  pub rose : (n : ℕ) → 0 < failures n calls → Rose (old n) (new n)
-  pub apart : KeepsApart calls old new
+-- Where so many of the calls on each output failed: the count of an output rose where one did, and outputs are kept apart.
+pub record CountsOutputs (failed old new : ℕ → ℕ) : Type 0 where
+  pub rose : (n : ℕ) → 0 < failed n → Rose (old n) (new n)
+  pub apart : KeepsApart failed old new
 
 -- These calls were made.
 pub record Makes (old new : Seen) (calls : List Entry) : Type 0 where
@@ -52,7 +52,7 @@ pub record Makes (old new : Seen) (calls : List Entry) : Type 0 where
   pub says : Counts (say_failures calls) old.faults.say new.faults.say
   pub notes : Counts (note_failures calls) old.faults.note new.faults.note
   pub pulls : Counts (pull_failures calls) old.faults.pull new.faults.pull
-  pub outputs : CountsOutputs calls old.faults.output new.faults.output
+  pub outputs : CountsOutputs (λ n. failures n calls) old.faults.output new.faults.output
 
 -- Some calls were made, whether they are told or not, and they have P.
 pub record Does (old new : Seen) (P : List Entry → Type 0) : Type 0 where

@@ -1,5 +1,6 @@
--- When the outputs of a log are those of numbered texts.
+-- When the outputs of a log are those of numbered texts, and which of them are broken.
 use Rattle.std.specs.Prelude.{ℕ, ◌≡◌, ◌<◌, List, [], ◌∷◌}
+use Rattle.std.specs.List.Sorted.{IsStrictlyIncreasing}
 use Rattle.as_words.specs.Prefix.{IsPrefix}
 use Rattle.as_base.specs.Times.{times}
 use Rattle.as_outside.specs.declared.entry.Entry.{Entry}
@@ -23,3 +24,12 @@ pub record AreOutputs (numbers : List ℕ) (text : ℕ → List ℕ) (log : List
   pub broken : (n : ℕ) → 0 < failures n log → IsPrefix (held n log) (text n)
   -- and had no further call
   pub ended : (n : ℕ) → EndsAtFailure n log
+
+-- Each number stands in the list as often as a call on its output failed, which is at most once.
+abbrev pub AreListed : List ℕ → List Entry → Type 0
+AreListed broken log = (n : ℕ) → times n broken ≡ failures n log
+
+-- These are the broken outputs, by rising number.
+pub record AreBroken (broken : List ℕ) (log : List Entry) : Type 0 where
+  pub rising : IsStrictlyIncreasing broken
+  pub listed : AreListed broken log

@@ -4,16 +4,15 @@ ghost use Rattle.as_outside.specs.Makes.{Rose};
 
 mod call_log;
 mod script;
-mod tape;
 #[cfg(test)]
 mod tests;
 
+use crate::tape::Tape;
 use crate::{Desk, Entry, Failed, Shelf};
 use as_base::{Bytes, NoMemory};
 use call_log::{CallLog, Kept};
 use script::Script;
 use std::alloc::Global;
-use tape::Tape;
 
 /// A desk in memory, for tests. It pulls from given bytes, keeps its calls as a log, and lets calls fail by a script.
 #[derive(Debug, Drop)]

@@ -1,11 +1,9 @@
 //! The program `astream`: the service over standard input, standard output and files of the current folder.
 #![tactic(auto)]
 
-mod desk;
-
 use as_outside::{FreeGate, Status, code};
+use as_real::RealDesk;
 use astream_top::astream;
-use desk::RealDesk;
 use std::env::Env;
 use std::io::ErrorKind;
 use std::process::ExitCode;

@@ -1,95 +1,139 @@
--- What the calls that were made say of the counts of faults.
-use Rattle.std.proofs.Common.{◌≡◌, ℕ, ◌==◌, cond, inl, inr, ⊎_elim, Result, Ok, Err, List, [], ◌∷◌, refl, sym, ap, ◌∙◌, arith}
-use Rattle.std.proofs.lemmas.Bool.{ne_eqb}
+-- What the calls that were made say of the counts of faults, and of the input.
+use Rattle.std.proofs.Common.{◌≡◌, ◌≢◌, ◌⊎◌, ◌≤◌, ◌<◌, ◌+◌, ℕ, Bool, true, false, cond, Result, Ok, Err, OnOk, Option, Some, None, List, [], ◌∷◌, ◌++◌, length, length-append, refl, sym, ap, subst, ◌∙◌, arith, inl, inr, ⊎_elim, is_none, true≢false}
 use Rattle.as_base.specs.declared.config.Config.{Config}
+use Rattle.as_base.specs.Times.{times}
+use Rattle.as_base.proofs.TimesLaws.{times-cons}
 use Rattle.as_outside.specs.declared.entry.Entry.{Entry}
-use Rattle.as_outside.specs.declared.entry.Entry.TheVariants.{Pulled, PullFailed, Said, SayFailed, BeginFailed, PutFailed}
-use Rattle.as_outside.specs.Failures.{IsFaultless, EndsWith, failed_on, failures, say_failed_by, note_failed_by, pull_failed_by}
-use Rattle.as_outside.specs.Makes.{Seen, Makes, Does}
-use Rattle.as_outside.proofs.FailureLaws.{failed_on-none, say_failed_by-none, note_failed_by-none, pull_failed_by-none, none_counted, last_counted}
-use Rattle.as_outside.proofs.MakesLaws.{same_number, makes_none}
+use Rattle.as_outside.specs.declared.entry.Entry.TheVariants.{Said, SayFailed}
+use Rattle.as_outside.specs.declared.report.Status.{Status}
+use Rattle.as_outside.specs.declared.report.Status.TheVariants as status
+use Rattle.as_outside.specs.Log.{pulled}
+use Rattle.as_outside.specs.Failures.{failures, say_failures, pull_failures, note_failures}
+use Rattle.as_outside.specs.Makes.{Seen, Faults, Rose, Counts, CountsOutputs, Takes, Makes, Does}
+use Rattle.as_outside.proofs.MakesLaws.{CountsOutputs-same, same_number}
 use Rattle.service.specs.declared.stop.Stop.{Stop}
 use Rattle.service.specs.declared.stop.Stop.TheVariants as stop
-use Rattle.astream_top.specs.Ends.{IsCutShort}
-use Rattle.astream_top.specs.Run.{IsRun}
-use Rattle.astream_top.specs.Causes.{NoneRose, PullRose, SayRose, OutputRose, IsCaused, status_of, broken_of}
+use Rattle.astream_top.specs.Explanation.{IsExplained}
+use Rattle.astream_top.specs.Ends.{pulls_failed, says_failed, StandsBy, IsEnded}
+use Rattle.astream_top.specs.Causes.{Tells, IsCaused, IsRead, EndsSurely}
+use Rattle.astream_top.specs.Run.{status_of, ended_by, IsEmptied}
 
-module _ (a b : Seen) (calls : List Entry) (makes : Makes a b calls) where
-  -- where no call on an output failed, their counts stay
-  outputs_stay : ((n : ℕ) → failures n calls ≡ 0) → (n : ℕ) → b.faults.output n ≡ a.faults.output n
-  outputs_stay none n = ⊎_elim (λ apart. apart n (none n)) (λ all. absurd (omega (arith, all.1, none all.0))) makes.outputs.apart
-
-  none_rose : IsFaultless calls → NoneRose a.faults b.faults
-  none_rose fine = record {
-    says = makes.says.stays (none_counted say_failed_by say_failed_by-none calls fine);
-    notes = makes.notes.stays (none_counted note_failed_by note_failed_by-none calls fine);
-    pulls = makes.pulls.stays (none_counted pull_failed_by pull_failed_by-none calls fine);
-    outputs = outputs_stay (λ n. none_counted (failed_on n) (failed_on-none n) calls fine);
-  }
-
-  pull_rose : EndsWith calls PullFailed → PullRose a.faults b.faults
-  pull_rose ends = record {
-    pulls = makes.pulls.rose (omega (arith, last_counted pull_failed_by pull_failed_by-none calls PullFailed ends));
-    says = makes.says.stays (last_counted say_failed_by say_failed_by-none calls PullFailed ends);
-    notes = makes.notes.stays (last_counted note_failed_by note_failed_by-none calls PullFailed ends);
-    outputs = outputs_stay (λ n. last_counted (failed_on n) (failed_on-none n) calls PullFailed ends);
-  }
-
-  say_rose : (front : List ℕ) → EndsWith calls (SayFailed front) → SayRose a.faults b.faults
-  say_rose front ends = record {
-    says = makes.says.rose (omega (arith, last_counted say_failed_by say_failed_by-none calls (SayFailed front) ends));
-    notes = makes.notes.stays (last_counted note_failed_by note_failed_by-none calls (SayFailed front) ends);
-    pulls = makes.pulls.stays (last_counted pull_failed_by pull_failed_by-none calls (SayFailed front) ends);
-    outputs = outputs_stay (λ n. last_counted (failed_on n) (failed_on-none n) calls (SayFailed front) ends);
-  }
-
-  -- a begin of output n failed last, or a put on it
-  output_rose : (n : ℕ) (e : Entry) → say_failed_by e ≡ 0 → note_failed_by e ≡ 0 → pull_failed_by e ≡ 0
-      → ((m : ℕ) → failed_on m e ≡ cond (n == m) 1 0) → EndsWith calls e → OutputRose n a.faults b.faults
-  output_rose n e no_say no_note no_pull on ends =
-      let here : failures n calls ≡ 1 = last_counted (failed_on n) (failed_on-none n) calls e ends ∙ on n ∙ ap (λ b. cond b 1 0) (same_number n) in
-      let there : (m : ℕ) → (m ≡ n → ⊥) → failures m calls ≡ 0 =
-      λ m other. last_counted (failed_on m) (failed_on-none m) calls e ends ∙ on m ∙ ap (λ b. cond b 1 0) (ne_eqb n m (λ same. other (sym same))) in
-      record {
-        output = makes.outputs.rose n (omega (arith, here));
-        says = makes.says.stays (last_counted say_failed_by say_failed_by-none calls e ends ∙ no_say);
-        notes = makes.notes.stays (last_counted note_failed_by note_failed_by-none calls e ends ∙ no_note);
-        pulls = makes.pulls.stays (last_counted pull_failed_by pull_failed_by-none calls e ends ∙ no_pull);
-        others = ⊎_elim (λ apart. inl (λ m other. apart m (there m other))) (λ all. inr all.2) makes.outputs.apart;
-      }
+-- what a status tells of the broken outputs
+tells : (c : Config) (limit count : ℕ) (s : Status) (broken : List ℕ) (calls : List Entry) → StandsBy c limit s count broken calls → Tells s broken
+tells c limit count status.Done broken calls h = h.0
+tells c limit count status.OutputBroken broken calls h = h.0
+tells c limit count status.NoMemory broken calls h = tt
+tells c limit count status.ReadFault broken calls h = tt
+tells c limit count status.AnswerFault broken calls h = tt
+tells c limit count status.TooLong broken calls h = tt
+tells c limit count status.Usage broken calls h = absurd h
+tells c limit count status.JournalFault broken calls h = absurd h
 
 -- A run ended so only where the counts of faults tell it.
-pub caused : (c : Config) (limit count : ℕ) (result : Result (Unit {0}) Stop) (a b : Seen) → Does a b (IsRun c limit count result)
-    → IsCaused (status_of result) (broken_of result) a.faults b.faults
-caused c limit count (Ok x) a b h = (none_rose a b h.calls h.makes h.holds.faultless, refl)
-caused c limit count (Err stop.NoMemory) a b h = (none_rose a b h.calls h.makes h.holds.faultless, refl)
-caused c limit count (Err stop.TooLong) a b h = (none_rose a b h.calls h.makes h.holds.faultless, refl)
-caused c limit count (Err stop.ReadFault) a b h = (pull_rose a b h.calls h.makes h.holds.last, refl)
-caused c limit count (Err stop.AnswerFault) a b h = (say_rose a b h.calls h.makes h.holds.last.0 h.holds.last.1, refl)
-caused c limit count (Err (stop.OutputBroken n)) a b h =
-    let last = h.holds.last in (
-      last.0,
-      last.1,
-      ⊎_elim
-          (λ begun. output_rose a b h.calls h.makes last.0 (BeginFailed last.0) refl refl refl (λ m. refl) begun)
-          (λ put. output_rose a b h.calls h.makes last.0 (PutFailed last.0 put.0) refl refl refl (λ m. refl) put.1)
-          last.2,
-    )
+pub caused : (c : Config) (limit count : ℕ) (s : Status) (broken : List ℕ) (a b : Seen) → Does a b (IsEnded c limit s count broken) → IsCaused s broken a.faults b.faults
+caused c limit count s broken a b h = record {
+  pulls = subst (λ n. Counts n a.faults.pull b.faults.pull) h.holds.pulls h.makes.pulls;
+  says = subst (λ n. Counts n a.faults.say b.faults.say) h.holds.says h.makes.says;
+  notes = h.makes.notes.stays h.holds.notes;
+  outputs = CountsOutputs-same (λ n. failures n h.calls) (λ n. times n broken) a.faults.output b.faults.output h.holds.outputs_broken.listed h.makes.outputs;
+  told = tells c limit count s broken h.calls h.holds.stands;
+}
 
--- one call that went well, or failed
+-- calls that say, at most, end so by the says that failed
+said_so : (s : Status) (calls : List Entry) (a b : Seen) → Makes a b calls → pull_failures calls ≡ pulls_failed s → say_failures calls ≡ says_failed s → note_failures calls ≡ 0
+    → ((n : ℕ) → failures n calls ≡ 0) → Tells s [] → IsCaused s [] a.faults b.faults
+said_so s calls a b makes pulls says notes outputs told = record {
+  pulls = subst (λ n. Counts n a.faults.pull b.faults.pull) pulls makes.pulls;
+  says = subst (λ n. Counts n a.faults.say b.faults.say) says makes.says;
+  notes = makes.notes.stays notes;
+  outputs = CountsOutputs-same (λ n. failures n calls) (λ n. times n []) a.faults.output b.faults.output (λ n. sym (outputs n)) makes.outputs;
+  told = told;
+}
 
-pub pulled_causes : (a b : Seen) (bytes : List ℕ) → Makes a b (Pulled bytes ∷ []) → NoneRose a.faults b.faults
-pulled_causes a b bytes makes = none_rose a b (Pulled bytes ∷ []) makes (refl, tt)
+pub said_causes : (a b : Seen) (bytes : List ℕ) → Makes a b (Said bytes ∷ []) → IsCaused status.Done [] a.faults b.faults
+said_causes a b bytes makes = said_so status.Done (Said bytes ∷ []) a b makes refl refl refl (λ n. refl) refl
 
-pub unpulled_causes : (a b : Seen) → Makes a b (PullFailed ∷ []) → PullRose a.faults b.faults
-unpulled_causes a b makes = pull_rose a b (PullFailed ∷ []) makes (record { before = []; last = refl; faultless = tt })
+pub unsaid_causes : (a b : Seen) (front : List ℕ) → Makes a b (SayFailed front ∷ []) → IsCaused status.AnswerFault [] a.faults b.faults
+unsaid_causes a b front makes = said_so status.AnswerFault (SayFailed front ∷ []) a b makes refl refl refl (λ n. refl) tt
 
-pub said_causes : (a b : Seen) (bytes : List ℕ) → Makes a b (Said bytes ∷ []) → NoneRose a.faults b.faults
-said_causes a b bytes makes = none_rose a b (Said bytes ∷ []) makes (refl, tt)
+-- ---- the input
 
-pub unsaid_causes : (a b : Seen) (front : List ℕ) → Makes a b (SayFailed front ∷ []) → SayRose a.faults b.faults
-unsaid_causes a b front makes = say_rose a b (SayFailed front ∷ []) makes front (record { before = []; last = refl; faultless = tt })
+-- what was told to be left is what was pulled, and what is left then
+all_pulled : (a b : Option (List ℕ)) (bytes input : List ℕ) → Takes a b bytes → a ≡ Some input → (rest : List ℕ) × (b ≡ Some rest) × (input ≡ bytes ++ rest)
+all_pulled a None bytes input takes is = absurd (true≢false (ap is_none (sym takes ∙ is)))
+all_pulled a (Some rest) bytes input takes is = (rest, refl, some (sym is ∙ takes))
+  where
+    some : Some input ≡ Some (bytes ++ rest) → input ≡ bytes ++ rest
+    some e = cc
 
--- there was no memory before any call
-pub cut_short : (c : Config) (a : Seen) → Does a a (IsCutShort c)
-cut_short c a = record { calls = []; makes = makes_none a; holds = record { prompt = tt; faultless = tt } }
+pub read : (c : Config) (limit count : ℕ) (s : Status) (broken input : List ℕ) (a b : Seen) → Does a b (IsEnded c limit s count broken) → ((s ≡ status.Done) ⊎ (s ≡ status.OutputBroken) → IsEmptied b)
+    → a.left ≡ Some input → IsRead limit input s b.left
+read c limit count s broken input a b h emptied is = go s h.holds.stands emptied
+  where
+    all : (rest : List ℕ) × (b.left ≡ Some rest) × (input ≡ pulled h.calls ++ rest)
+    all = all_pulled a.left b.left (pulled h.calls) input h.makes.takes is
+
+    whole : IsEmptied b → length (pulled h.calls) ≤ limit → (length input ≤ limit) × (b.left ≡ Some [])
+    whole none fits = (omega (arith, fits, ap length all.2, length-append (pulled h.calls) all.0, ap length (none all.0 all.1)), all.1 ∙ ap Some (none all.0 all.1))
+
+    go : (s : Status) → StandsBy c limit s count broken h.calls → ((s ≡ status.Done) ⊎ (s ≡ status.OutputBroken) → IsEmptied b) → IsRead limit input s b.left
+    go status.Done t none = whole (none (inl refl)) t.1.fits
+    go status.OutputBroken t none = whole (none (inr refl)) t.1.fits
+    go status.TooLong t none = omega (arith, t.over, ap length all.2, length-append (pulled h.calls) all.0)
+    go status.NoMemory t none = tt
+    go status.ReadFault t none = tt
+    go status.AnswerFault t none = tt
+    go status.Usage t none = tt
+    go status.JournalFault t none = tt
+
+-- ---- the outcome
+
+abbrev reads_all : Status → Bool
+reads_all status.Done = true
+reads_all status.OutputBroken = true
+reads_all _ = false
+
+-- only a run that was not stopped has read all its input
+pub not_stopped : (r : Result (Unit {0}) Stop) (broken : List ℕ) (P : Type 0) → OnOk r P → (ended_by r broken ≡ status.Done) ⊎ (ended_by r broken ≡ status.OutputBroken) → P
+not_stopped (Ok tt) broken P holds is = holds
+not_stopped (Err s) broken P holds is = absurd (no s (⊎_elim (λ e. ap reads_all e) (λ e. ap reads_all e) is))
+  where
+    no : (s : Stop) → reads_all (status_of s) ≡ true → ⊥
+    no stop.NoMemory e = true≢false (sym e)
+    no stop.ReadFault e = true≢false (sym e)
+    no stop.AnswerFault e = true≢false (sym e)
+    no stop.TooLong e = true≢false (sym e)
+
+-- ---- an outside that never fails
+
+never_rose : (a b : ℕ) → a ≡ 0 → b ≡ 0 → Rose a b → ⊥
+never_rose a b za zb rose = ⊎_elim (λ l. omega (arith, za, zb, l)) (λ l. omega (arith, zb, l)) rose.1
+
+stands_first : (n : ℕ) (broken : List ℕ) → 0 < times n (n ∷ broken)
+stands_first n broken = let one = ap {B = ℕ} (λ b. cond b 1 0) (same_number n) in omega (arith, times-cons n n broken, one)
+
+pub surely : (limit : ℕ) (input : List ℕ) (s : Status) (broken : List ℕ) (left : Option (List ℕ)) (old new : Faults) → old.say ≡ 0 → new.say ≡ 0 → old.pull ≡ 0 → new.pull ≡ 0
+    → ((n : ℕ) → old.output n ≡ 0) → ((n : ℕ) → new.output n ≡ 0) → IsCaused s broken old new → IsRead limit input s left → (s ≡ status.Usage → ⊥) → EndsSurely limit input s
+surely limit input status.Done broken left old new a b p q m n caused read used = read.0
+surely limit input status.TooLong broken left old new a b p q m n caused read used = read
+surely limit input status.NoMemory broken left old new a b p q m n caused read used = tt
+surely limit input status.Usage broken left old new a b p q m n caused read used = absurd (used refl)
+surely limit input status.JournalFault broken left old new a b p q m n caused read used = absurd caused.told
+surely limit input status.ReadFault broken left old new a b p q m n caused read used = absurd (never_rose old.pull new.pull p q (caused.pulls.rose (omega arith)))
+surely limit input status.AnswerFault broken left old new a b p q m n caused read used = absurd (never_rose old.say new.say a b (caused.says.rose (omega arith)))
+surely limit input status.OutputBroken broken left old new a b p q m n caused read used = absurd (go broken caused.outputs caused.told)
+  where
+    go : (broken : List ℕ) → CountsOutputs (λ k. times k broken) old.output new.output → (broken ≡ [] → ⊥) → ⊥
+    go [] outputs some = some refl
+    go (k ∷ rest) outputs some = never_rose (old.output k) (new.output k) (m k) (n k) (outputs.rose k (stands_first k rest))
+
+pub surely_explained : (text : List ℕ) (s : Status) (broken : List ℕ) (calls : List Entry) (old new : Faults) → old.say ≡ 0 → new.say ≡ 0 → IsCaused s broken old new → IsExplained text s calls
+    → (s ≡ status.Done) ⊎ (s ≡ status.NoMemory)
+surely_explained text status.Done broken calls old new a b caused h = inl refl
+surely_explained text status.NoMemory broken calls old new a b caused h = inr refl
+surely_explained text status.AnswerFault broken calls old new a b caused h = absurd (never_rose old.say new.say a b (caused.says.rose (omega arith)))
+surely_explained text status.Usage broken calls old new a b caused h = absurd h
+surely_explained text status.ReadFault broken calls old new a b caused h = absurd h
+surely_explained text status.OutputBroken broken calls old new a b caused h = absurd h
+surely_explained text status.TooLong broken calls old new a b caused h = absurd h
+surely_explained text status.JournalFault broken calls old new a b caused h = absurd h

@@ -6,7 +6,7 @@ use Rattle.std.specs.Str.{bytes_eq}
 use Rattle.as_words.specs.Words.{is_word, joined}
 use Rattle.as_base.specs.declared.config.Config.{Config}
 use Rattle.options.specs.declared.option.NumberOption.{NumberOption}
-use Rattle.options.specs.declared.option.NumberOption.TheVariants.{Streams, Slots}
+use Rattle.options.specs.declared.option.NumberOption.TheVariants.{Streams, Slots, MaxBytes}
 use Rattle.options.specs.Options.{are_pairs, number}
 use Rattle.astream_top.specs.declared.command.Command.{Command}
 use Rattle.astream_top.specs.declared.command.Command.TheVariants.{Run, Explain}
@@ -21,17 +21,22 @@ text_of_words words = if are_text words then Some (joined words) else None
 
 -- the options of `run`
 abbrev pub run_options : List NumberOption
-run_options = Streams ∷ Slots ∷ []
+run_options = Streams ∷ Slots ∷ MaxBytes ∷ []
 
 -- a configuration of so many streams and slots; work is not spread over parts yet
 abbrev pub config_of : Option ℕ → Option ℕ → Option Config
 config_of (Some streams) (Some slots) = Some (record { streams = streams; slots = slots; parts = 4; lane = 1024 })
 config_of _ _ = None
 
--- what `run` is configured for by its options, if they are well given
+-- the run of this configuration that takes at most so many bytes
+abbrev pub run_of : Option Config → Option ℕ → Option Command
+run_of (Some c) (Some limit) = Some (Run c limit)
+run_of _ _ = None
+
+-- what `run` is asked for by its options, if they are well given
 abbrev pub run_with : List (List ℕ) → Option Command
 run_with words =
-    if are_pairs run_options words then option_map Run (config_of (number Streams words) (number Slots words)) else None
+    if are_pairs run_options words then run_of (config_of (number Streams words) (number Slots words)) (number MaxBytes words) else None
 
 -- what the words ask for: `run` with its options, or `explain` with the words of a query text
 abbrev pub command_of : List (List ℕ) → Option Command

@@ -1,5 +1,5 @@
 -- Worked inputs, evaluated on the definitions alone.
-use Rattle.std.specs.Prelude.{ℕ, ◌≡◌, refl, Some, None, replicate, List, [], ◌∷◌, ◌++◌, codes}
+use Rattle.std.specs.Prelude.{ℕ, ◌≡◌, ◌^◌, refl, Some, None, replicate, List, [], ◌∷◌, ◌++◌, codes}
 use Rattle.std.specs.Fmt.{digits}
 use Rattle.as_lineform.specs.Lines.{items}
 use Rattle.as_base.specs.declared.config.Config.{Config}
@@ -177,14 +177,18 @@ pub second_after : held_in_the_end 2 after_input ≡ []
 unfolding digits
 second_after = refl
 
--- the words of `run`: both options, none, one that is out of its range, one given twice, one without its number, and none
-pub run_words : command_of (codes "run" ∷ codes "--slots" ∷ codes "1" ∷ codes "--streams" ∷ codes "2" ∷ []) ≡ Some (Run (with 2 1))
+-- the words of `run`: two options, none, another, one that is out of its range, one given twice, one without its number, and none
+pub run_words : command_of (codes "run" ∷ codes "--slots" ∷ codes "1" ∷ codes "--streams" ∷ codes "2" ∷ []) ≡ Some (Run (with 2 1) (2 ^ 40))
 unfolding digits
 run_words = refl
 
-pub run_alone : command_of (codes "run" ∷ []) ≡ Some (Run usual)
+pub run_alone : command_of (codes "run" ∷ []) ≡ Some (Run usual (2 ^ 40))
 unfolding digits
 run_alone = refl
+
+pub few_bytes : command_of (codes "run" ∷ codes "--max-bytes" ∷ codes "10" ∷ []) ≡ Some (Run usual 10)
+unfolding digits
+few_bytes = refl
 
 pub no_slots : command_of (codes "run" ∷ codes "--slots" ∷ codes "0" ∷ []) ≡ None
 unfolding digits

@@ -12,7 +12,11 @@ use std::alloc::Global;
 const TEXT_MAX: usize = 4089;
 
 /// The options of `run`.
-const RUN_OPTIONS: [NumberOption; 2] = [NumberOption::Streams, NumberOption::Slots];
+const RUN_OPTIONS: [NumberOption; 3] = [
+    NumberOption::Streams,
+    NumberOption::Slots,
+    NumberOption::MaxBytes,
+];
 
 /// Over how many parts the work is to be spread, once it is.
 const PARTS: u16 = 4;
@@ -23,8 +27,8 @@ const LANE: u32 = 1024;
 /// What the words of a call ask for.
 #[derive(Debug, Drop)]
 pub enum Command {
-    /// The service, over the desk's input, for this configuration.
-    Run(Config),
+    /// The service over the desk's input, of which it takes at most so many bytes.
+    Run { config: Config, limit: u64 },
     /// The canonical form of a query text.
     Explain(Text),
 }
@@ -79,12 +83,14 @@ fn run_with(words: &[String]) -> Option<Command>
     }
     let streams = number(words, NumberOption::Streams)?;
     let slots = number(words, NumberOption::Slots)?;
-    Some(Command::Run(Config {
+    let limit = number(words, NumberOption::MaxBytes)?;
+    let config = Config {
         streams: streams as u8,
         slots: slots as u16,
         parts: PARTS,
         lane: LANE,
-    }))
+    };
+    Some(Command::Run { config, limit })
 }
 
 /// What the words ask for: the service for `run` and its options; an explanation for `explain` and the words of a query

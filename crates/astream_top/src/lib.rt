@@ -7,4 +7,4 @@ mod list_engine;
 mod run;
 mod top;
 
-pub use top::{MAX_BYTES, astream};
+pub use top::{astream, rehearse};

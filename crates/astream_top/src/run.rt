@@ -1,14 +1,13 @@
-ghost use Rattle.std.specs.Prelude.{◌≡◌, ◌<◌, ◌≤◌, ◌+◌, ◌++◌, ◌^◌, ℕ, [], ◌∷◌, List, length, take, IfOk, IfErr, OnOk, MatchResult};
+ghost use Rattle.std.specs.Prelude.{◌≡◌, ◌<◌, ◌≤◌, ◌+◌, ◌++◌, ◌^◌, ℕ, [], ◌∷◌, List, length, take, IfOk, IfErr, OnOk};
 ghost use Rattle.as_base.specs.declared.config.Config.{Config};
 ghost use Rattle.as_outside.specs.declared.entry.Entry.{Entry};
 ghost use Rattle.as_outside.specs.declared.entry.Entry.TheVariants.{Pulled, PullFailed};
 ghost use Rattle.as_outside.specs.Makes.{Makes, Does};
 ghost use Rattle.service.specs.declared.stop.Stop.{Stop};
-ghost use Rattle.as_lineform.specs.Lines.{items};
-ghost use Rattle.service.specs.Stop.{Goes};
-ghost use Rattle.service.specs.Processor.{HasProcessed, IsFinished};
-ghost use Rattle.astream_top.specs.Run.{HasTaken, IsAt, IsRun, PullsOnce};
-ghost use Rattle.astream_top.specs.Causes.{IsCaused, NoneRose, PullRose, status_of, broken_of};
+ghost use Rattle.as_lineform.specs.Lines.{lines, items};
+ghost use Rattle.service.specs.Stop.{Continues, Goes};
+ghost use Rattle.service.specs.Processor.{broken_in, HasProcessed, IsFinished};
+ghost use Rattle.astream_top.specs.Run.{HasTaken, StopsIn, StopsByEnd, IsAt, ended_by, RunEnds, PullsOnce, IsEmptied};
 
 use as_base::NoMemory;
 use as_lineform::{Lines, Step};
@@ -42,8 +41,8 @@ pub fn start<E: QueryEngine + Drop>(alloc: Global, engine: E) -> Result<Run<E>, 
 fn take_byte<E: QueryEngine, D: Desk>(run: &mut Run<E>, desk: &mut D, byte: u8) -> Result<(), Stop>
     requires { E.count run.old.processor.engine < 2 ^ 62 }
     ensures calls { (c : Config) (bytes : List ℕ) (calls : List Entry) → HasTaken E.QueryEngine c run.old bytes calls →
-        Does (D.seen desk.old) (D.seen desk.new) (Goes result (λ more.
-        HasTaken E.QueryEngine c run.new (bytes ++ byte ∷ []) (calls ++ more))) }
+        Continues (D.seen desk.old) (D.seen desk.new) calls (Goes result
+        (HasTaken E.QueryEngine c run.new (bytes ++ byte ∷ [])) (StopsIn c run.new.processor (lines (bytes ++ byte ∷ [])))) }
     ensures count { OnOk result (E.count run.new.processor.engine ≤ E.count run.old.processor.engine + 1) }
 {
     match run.cutter.feed(byte)? {
@@ -60,8 +59,8 @@ fn take_bytes<E: QueryEngine, D: Desk>(
 ) -> Result<(), Stop>
     requires { E.count run.old.processor.engine + length bytes.now < 2 ^ 62 }
     ensures calls { (c : Config) (before : List ℕ) (calls : List Entry) → HasTaken E.QueryEngine c run.old before calls →
-        Does (D.seen desk.old) (D.seen desk.new) (Goes result (λ more.
-        HasTaken E.QueryEngine c run.new (before ++ bytes.now) (calls ++ more))) }
+        Continues (D.seen desk.old) (D.seen desk.new) calls (Goes result
+        (HasTaken E.QueryEngine c run.new (before ++ bytes.now)) (StopsIn c run.new.processor (lines (before ++ bytes.now)))) }
     ensures count { OnOk result (E.count run.new.processor.engine ≤ E.count run.old.processor.engine + length bytes.now) }
 {
     for byte in bytes {
@@ -74,8 +73,8 @@ fn take_bytes<E: QueryEngine, D: Desk>(
 fn take_last<E: QueryEngine, D: Desk>(run: &mut Run<E>, desk: &mut D) -> Result<(), Stop>
     requires { E.count run.old.processor.engine < 2 ^ 62 }
     ensures calls { (c : Config) (bytes : List ℕ) (calls : List Entry) → HasTaken E.QueryEngine c run.old bytes calls →
-        Does (D.seen desk.old) (D.seen desk.new) (Goes result (λ more.
-        HasProcessed E.QueryEngine c run.new.processor (items bytes) (calls ++ more))) }
+        Continues (D.seen desk.old) (D.seen desk.new) calls (Goes result
+        (HasProcessed E.QueryEngine c run.new.processor (items bytes)) (StopsIn c run.new.processor (items bytes))) }
     ensures count { OnOk result (E.count run.new.processor.engine ≤ E.count run.old.processor.engine + 1) }
 {
     match run.cutter.finish()? {
@@ -88,22 +87,20 @@ fn take_last<E: QueryEngine, D: Desk>(run: &mut Run<E>, desk: &mut D) -> Result<
 fn end<E: QueryEngine, D: Desk>(run: &mut Run<E>, desk: &mut D) -> Result<(), Stop>
     requires { E.count run.old.processor.engine + 5 ≤ 2 ^ 62 }
     ensures { (c : Config) (bytes : List ℕ) (calls : List Entry) → HasTaken E.QueryEngine c run.old bytes calls →
-        Does (D.seen desk.old) (D.seen desk.new) (Goes result (λ more.
-        IsFinished c run.new.processor.lines (items bytes) (calls ++ more))) }
+        Continues (D.seen desk.old) (D.seen desk.new) calls (Goes result
+        (IsFinished c run.new.processor.lines (broken_in run.new.processor) (items bytes)) (StopsByEnd c run.new.processor (items bytes))) }
 {
     take_last(run, desk)?;
     run.processor.finish(desk)
 }
 
 // Pulls into the buffer, and says how many bytes came. Where the pull failed, the run stops.
-#[tactic(auto, using(crate::proofs::CauseLaws::pulled_causes, crate::proofs::CauseLaws::unpulled_causes))]
 fn pull<D: Desk>(desk: &mut D, buf: &mut [u8]) -> Result<usize, Stop>
     requires { 0 < length buf.old }
-    ensures causes { MatchResult result (λ k. NoneRose (D.seen desk.old).faults (D.seen desk.new).faults)
-        (λ stop. PullRose (D.seen desk.old).faults (D.seen desk.new).faults) }
     ensures room { IfOk result (λ k. k ≤ length buf.old) }
     ensures size { length buf.new ≡ length buf.old }
     ensures ok { IfOk result (λ k. Makes (D.seen desk.old) (D.seen desk.new) (Pulled (take k buf.new) ∷ [])) }
+    ensures emptied { IfOk result (λ k. k ≡ 0 → IsEmptied (D.seen desk.new)) }
     ensures err { IfErr result (λ stop. (stop ≡ Stop.ReadFault) × Makes (D.seen desk.old) (D.seen desk.new) (PullFailed ∷ [])) }
 {
     match desk.pull(buf) {
@@ -125,6 +122,8 @@ fn pull_once<E: QueryEngine, D: Desk>(
     ensures calls { (c : Config) (calls : List Entry) → IsAt E.QueryEngine c run.old calls →
         Does (D.seen desk.old) (D.seen desk.new) (λ more.
         PullsOnce E.QueryEngine c most run.new result calls (calls ++ more)) }
+    ensures emptied { (c : Config) (calls : List Entry) → IsAt E.QueryEngine c run.old calls →
+        IfOk result (λ k. k ≡ 0 → IsEmptied (D.seen desk.new)) }
     ensures room { IfOk result (λ k. k ≤ most) }
     ensures count { IfOk result (λ k. E.count run.new.processor.engine ≤ E.count run.old.processor.engine + k) }
 {
@@ -137,14 +136,19 @@ fn pull_once<E: QueryEngine, D: Desk>(
     Ok(pulled)
 }
 
-// Pulls until the input ends, at most one byte beyond the limit, and before each pull does all that is due for the whole
-// lines pulled.
-fn pull_all<E: QueryEngine, D: Desk>(run: &mut Run<E>, desk: &mut D, limit: u64) -> Result<(), Stop>
+/// Pulls until the input ends, at most one byte beyond the limit, and before each pull does all that is due for the whole
+/// lines pulled. It says why it stopped before the end, if it did.
+pub fn run_all<E: QueryEngine, D: Desk>(
+    run: &mut Run<E>,
+    desk: &mut D,
+    limit: u64,
+) -> Result<(), Stop>
     requires small { limit < 2 ^ 61 }
     requires fresh { HasTaken E.QueryEngine (E.config run.old.processor.engine) run.old [] [] }
     requires none { E.count run.old.processor.engine ≡ 0 }
-    ensures { Does (D.seen desk.old) (D.seen desk.new)
-        (IsRun (E.config run.old.processor.engine) limit run.new.processor.lines result) }
+    ensures ended { Does (D.seen desk.old) (D.seen desk.new)
+        (RunEnds (E.config run.old.processor.engine) limit run.new.processor (ended_by result (broken_in run.new.processor))) }
+    ensures emptied { OnOk result (IsEmptied (D.seen desk.new)) }
 {
     let mut buf = [0; PULL_MAX];
     let mut most = limit as usize;
@@ -157,21 +161,4 @@ fn pull_all<E: QueryEngine, D: Desk>(run: &mut Run<E>, desk: &mut D, limit: u64)
         }
         most -= pulled;
     }
-}
-
-/// Pulls until the input ends, and says why it stopped.
-#[tactic(auto, using(crate::proofs::CauseLaws::caused))]
-pub fn run_all<E: QueryEngine, D: Desk>(
-    run: &mut Run<E>,
-    desk: &mut D,
-    limit: u64,
-) -> Result<(), Stop>
-    requires small { limit < 2 ^ 61 }
-    requires fresh { HasTaken E.QueryEngine (E.config run.old.processor.engine) run.old [] [] }
-    requires none { E.count run.old.processor.engine ≡ 0 }
-    ensures calls { Does (D.seen desk.old) (D.seen desk.new)
-        (IsRun (E.config run.old.processor.engine) limit run.new.processor.lines result) }
-    ensures causes { IsCaused (status_of result) (broken_of result) (D.seen desk.old).faults (D.seen desk.new).faults }
-{
-    pull_all(run, desk, limit)
 }

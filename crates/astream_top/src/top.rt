@@ -1,93 +1,96 @@
-ghost use Rattle.std.specs.Prelude.{true, ◌≡◌, ◌<◌, ◌^◌, ◌↔◌, ℕ, List, Some, None, map, string_bytes};
+ghost use Rattle.std.specs.Prelude.{true, ◌≡◌, ◌<◌, ◌^◌, ◌⊎◌, ◌↔◌, ℕ, List, [], Some, None, IfOk, map, string_bytes};
 ghost use Rattle.as_outside.specs.Makes.{Does};
 ghost use Rattle.as_base.specs.Config.{fits};
 ghost use Rattle.as_base.specs.declared.config.Config.{Config};
 ghost use Rattle.astream_top.specs.Command.{command_of};
 ghost use Rattle.astream_top.specs.Explanation.{IsExplained};
 ghost use Rattle.astream_top.specs.declared.command.Command.{Command};
-ghost use Rattle.astream_top.specs.Causes.{IsCaused};
-ghost use Rattle.astream_top.specs.Ends.{IsDone, IsTooLong, IsCutOff, IsCutShort, IsUnsaid, IsBroken};
+ghost use Rattle.astream_top.specs.Causes.{IsCaused, IsRead, EndsSurely};
+ghost use Rattle.astream_top.specs.Ends.{IsEnded};
+ghost use Rattle.service.specs.Processor.{broken_in};
+ghost use Rattle.astream_top.specs.Run.{ended_by};
 
 use crate::command::{Command, command_of};
 use crate::explain::explain;
 use crate::list_engine::ListEngine;
 use crate::run::{run_all, start};
 use as_base::{Config, NoMemory, Numbers};
-use as_outside::{Desk, Gate, Report, Status};
-use service::Stop;
+use as_outside::{Desk, Gate, Report, Status, SureDesk};
+use service::{Broken, Processor, Stop};
 use std::alloc::Global;
 use std::thread::Threads;
 
-/// How many bytes of input a run takes at most: 2^40.
-pub const MAX_BYTES: u64 = 1_099_511_627_776;
+// How a run ends by its outcome and its broken outputs.
+fn ended_by(outcome: Result<(), Stop>, broken: &Broken) -> Status
+    ensures { result ≡ ended_by outcome broken.now.numbers.items }
+{
+    match outcome {
+        Ok(()) if broken.numbers.is_empty() => Status::Done,
+        Ok(()) => Status::OutputBroken,
+        Err(Stop::NoMemory) => Status::NoMemory,
+        Err(Stop::ReadFault) => Status::ReadFault,
+        Err(Stop::AnswerFault) => Status::AnswerFault,
+        Err(Stop::TooLong) => Status::TooLong,
+    }
+}
 
 // A run over the desk for this configuration that takes at most `limit` bytes.
-#[tactic(auto, using(crate::proofs::CauseLaws::cut_short))]
 fn run_within<D: Desk>(alloc: Global, desk: &mut D, config: Config, limit: u64) -> Report
     requires small { limit < 2 ^ 61 }
     requires fits { fits config ≡ true }
+    ensures ended { Does (D.seen desk.old) (D.seen desk.new) (IsEnded config limit result.status result.lines result.broken) }
     ensures causes { IsCaused result.status result.broken (D.seen desk.old).faults (D.seen desk.new).faults }
-    ensures done { result.status ≡ Status.Done → Does (D.seen desk.old) (D.seen desk.new) (IsDone config limit result.lines) }
-    ensures too_long { result.status ≡ Status.TooLong →
-        Does (D.seen desk.old) (D.seen desk.new) (IsTooLong config limit result.lines) }
-    ensures read_fault { result.status ≡ Status.ReadFault →
-        Does (D.seen desk.old) (D.seen desk.new) (IsCutOff config limit result.lines) }
-    ensures answer_fault { result.status ≡ Status.AnswerFault → Does (D.seen desk.old) (D.seen desk.new) (IsUnsaid config) }
-    ensures output_broken { result.status ≡ Status.OutputBroken →
-        Does (D.seen desk.old) (D.seen desk.new) (IsBroken config result.broken) }
-    ensures no_memory { result.status ≡ Status.NoMemory → Does (D.seen desk.old) (D.seen desk.new) (IsCutShort config) }
+    ensures read { (input : List ℕ) → (D.seen desk.old).left ≡ Some input →
+        IsRead limit input result.status (D.seen desk.new).left }
     ensures no_usage { result.status ≡ Status.Usage → ⊥ }
 {
-    // Room for the number of an output that breaks is made first, so that reporting it takes no memory.
-    let mut broken = match Vec::with_capacity(alloc, 1) {
-        Ok(broken) => broken,
-        Err(_) => return report(Status::NoMemory, 0, Vec::new(alloc)),
-    };
     let engine = match ListEngine::new(alloc, config) {
         Ok(engine) => engine,
-        Err(NoMemory) => return report(Status::NoMemory, 0, broken),
+        Err(NoMemory) => return empty_report(alloc, Status::NoMemory),
     };
     let mut run = match start(alloc, engine) {
         Ok(run) => run,
-        Err(NoMemory) => return report(Status::NoMemory, 0, broken),
+        Err(NoMemory) => return empty_report(alloc, Status::NoMemory),
     };
     let outcome = run_all(&mut run, desk, limit);
-    let lines = run.processor.lines;
-    match outcome {
-        Ok(()) => report(Status::Done, lines, broken),
-        Err(Stop::NoMemory) => report(Status::NoMemory, lines, broken),
-        Err(Stop::ReadFault) => report(Status::ReadFault, lines, broken),
-        Err(Stop::AnswerFault) => report(Status::AnswerFault, lines, broken),
-        Err(Stop::TooLong) => report(Status::TooLong, lines, broken),
-        Err(Stop::OutputBroken(n)) => {
-            broken.push_reserved(n);
-            report(Status::OutputBroken, lines, broken)
-        }
+    report(outcome, run.processor)
+}
+
+// The report of a run that ended with this outcome.
+fn report<E: Drop>(outcome: Result<(), Stop>, processor: Processor<E>) -> Report
+    ensures { result ≡ record { status = ended_by outcome (broken_in processor); lines = processor.lines; broken = broken_in processor } }
+{
+    let status = ended_by(outcome, &processor.broken);
+    Report {
+        status,
+        lines: processor.lines,
+        broken: processor.broken.into_numbers(),
     }
 }
 
-// A report.
-fn report(status: Status, lines: u64, broken: Vec<u64>) -> Report
-    ensures { result ≡ record { status = status; lines = lines; broken = broken.items } }
+// A report of no line and no broken output.
+fn empty_report(alloc: Global, status: Status) -> Report
+    ensures { result ≡ record { status = status; lines = 0; broken = [] } }
 {
     Report {
         status,
-        lines,
-        broken: Numbers::from_vec(broken),
+        lines: 0,
+        broken: Numbers::from_vec(Vec::new(alloc)),
     }
 }
 
-/// Does what the words ask for over a desk. `run` and its options, how many streams and how many slots: lines are pulled, answered, and queries' rows are put on their
-/// outputs, until the input ends. `explain` and the words of a query text: what it is over the four streams is said, its
-/// canonical text or the word that refuses it. Any other words are `Usage`, and touch nothing. The gate is not called
-/// yet.
+/// Does what the words ask for over a desk. `run` and its options, how many streams, how many slots, and how many bytes at
+/// most: lines are pulled, answered, and queries' rows are put on their outputs, until the input ends. `explain` and the
+/// words of a query text: what it is over the four streams is said, its canonical text or the word that refuses it. Any
+/// other words are `Usage`, and touch nothing. The gate is not called yet.
 ///
-/// The report says how the call ended. After `Done` all that is due was put and said. `ReadFault`, `AnswerFault` and
-/// `OutputBroken` come exactly where the count of that call's faults rose, and that call is the last one; `broken` names
-/// the output whose call failed. `TooLong` comes where the byte after `MAX_BYTES` was pulled. `NoMemory` may always come.
+/// The report says how the call ended. After `Done` all that is due was put and said. An output of which a begin or a put
+/// failed is broken: it gets no further call and holds a prefix of its text, `broken` lists it by rising number, and the
+/// run goes on; at its end `OutputBroken` stands for `Done`. `ReadFault` and `AnswerFault` come exactly where the count of
+/// that call's faults rose, and that call is the last one. `TooLong` comes where the byte after the limit was pulled, unless a
+/// say failed or there was no memory. `NoMemory` may always come; of the line in hand nothing was begun, put or said then.
 /// `JournalFault` never comes.
 /// Before each pull, all that was due for the lines pulled so far was out, whatever comes of the run.
-#[tactic(auto, using(crate::proofs::CauseLaws::cut_short, crate::proofs::CommandLaws::run_fits))]
 pub fn astream<R: Threads + Sync, D: Desk, G: Gate>(
     _rt: &R,
     alloc: Global,
@@ -102,38 +105,48 @@ pub fn astream<R: Threads + Sync, D: Desk, G: Gate>(
     // Over every desk, also one that tells no call: a fault is reported where its count rose, and nowhere else.
     ensures causes { IsCaused result.status result.broken (D.seen desk.old).faults (D.seen desk.new).faults }
 
-    // A run that is done, for the configuration that its words ask for: the answers, the outputs and the last line are
-    // those of the whole input, and so is their promptness.
-    ensures done { (c : Config) → command_of (map string_bytes words.now) ≡ Some (Command.Run c) → result.status ≡ Status.Done →
-        Does (D.seen desk.old) (D.seen desk.new) (IsDone c (2 ^ 40) result.lines) }
+    // A run, for the configuration and the limit that its words ask for: what stands by its status, and what stood before
+    // each pull.
+    ensures ended { (c : Config) (limit : ℕ) → command_of (map string_bytes words.now) ≡ Some (Command.Run c limit) →
+        Does (D.seen desk.old) (D.seen desk.new) (IsEnded c limit result.status result.lines result.broken) }
 
-    // Every other stop of a run has its cause, and is the last of the calls.
-    ensures read_fault { (c : Config) → command_of (map string_bytes words.now) ≡ Some (Command.Run c) →
-        result.status ≡ Status.ReadFault → Does (D.seen desk.old) (D.seen desk.new) (IsCutOff c (2 ^ 40) result.lines) }
-    ensures answer_fault { (c : Config) → command_of (map string_bytes words.now) ≡ Some (Command.Run c) →
-        result.status ≡ Status.AnswerFault → Does (D.seen desk.old) (D.seen desk.new) (IsUnsaid c) }
-    ensures output_broken { (c : Config) → command_of (map string_bytes words.now) ≡ Some (Command.Run c) →
-        result.status ≡ Status.OutputBroken → Does (D.seen desk.old) (D.seen desk.new) (IsBroken c result.broken) }
-    ensures too_long { (c : Config) → command_of (map string_bytes words.now) ≡ Some (Command.Run c) →
-        result.status ≡ Status.TooLong → Does (D.seen desk.old) (D.seen desk.new) (IsTooLong c (2 ^ 40) result.lines) }
-
-    // Want of memory is the one free answer.
-    ensures no_memory { (c : Config) → command_of (map string_bytes words.now) ≡ Some (Command.Run c) →
-        result.status ≡ Status.NoMemory → Does (D.seen desk.old) (D.seen desk.new) (IsCutShort c) }
+    // Without a fault of a pull or a say the input alone tells how a run ends, or there was no memory.
+    ensures read { (c : Config) (limit : ℕ) (input : List ℕ) → command_of (map string_bytes words.now) ≡ Some (Command.Run c limit) →
+        (D.seen desk.old).left ≡ Some input → IsRead limit input result.status (D.seen desk.new).left }
 
     // An explanation is one say, and takes no line.
     ensures explained { (text : List ℕ) → command_of (map string_bytes words.now) ≡ Some (Command.Explain text) →
         Does (D.seen desk.old) (D.seen desk.new) (IsExplained text result.status) × (result.lines ≡ 0) }
 {
     match command_of(alloc, words) {
-        Ok(Some(Command::Run(config))) => run_within(alloc, desk, config, MAX_BYTES),
+        Ok(Some(Command::Run { config, limit })) => run_within(alloc, desk, config, limit),
         Ok(Some(Command::Explain(text))) => {
             let status = explain(alloc, desk, &text);
-            report(status, 0, Vec::new(alloc))
+            empty_report(alloc, status)
         }
-        Ok(None) => report(Status::Usage, 0, Vec::new(alloc)),
-        Err(NoMemory) => report(Status::NoMemory, 0, Vec::new(alloc)),
+        Ok(None) => empty_report(alloc, Status::Usage),
+        Err(NoMemory) => empty_report(alloc, Status::NoMemory),
     }
+}
+
+/// What `astream` comes to over an outside that never fails, for this input: nothing is kept of what is said and put.
+/// `Usage` comes exactly by the words. A run is `Done` where the input is within its limit, and `TooLong` where it is longer;
+/// else there was no memory. An explanation is `Done`, or there was no memory.
+pub fn rehearse<R: Threads + Sync, G: Gate>(
+    rt: &R,
+    alloc: Global,
+    words: &[String],
+    input: Vec<u8>,
+    gate: &G,
+) -> Result<Report, NoMemory>
+    ensures usage { IfOk result (λ report. (report.status ≡ Status.Usage) ↔ (command_of (map string_bytes words.now) ≡ None)) }
+    ensures ended { IfOk result (λ report. (c : Config) (limit : ℕ) → command_of (map string_bytes words.now) ≡ Some (Command.Run c limit) →
+        EndsSurely limit input.items report.status) }
+    ensures explained { IfOk result (λ report. (text : List ℕ) → command_of (map string_bytes words.now) ≡ Some (Command.Explain text) →
+        (report.status ≡ Status.Done) ⊎ (report.status ≡ Status.NoMemory)) }
+{
+    let mut desk = SureDesk::new(input)?;
+    Ok(astream(rt, alloc, words, &mut desk, gate))
 }
 
 #[cfg(test)]

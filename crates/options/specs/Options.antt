@@ -5,18 +5,20 @@ use Rattle.std.specs.List.{list_any}
 use Rattle.std.specs.Str.{bytes_eq}
 use Rattle.as_words.specs.Number.{natural}
 use Rattle.options.specs.declared.option.NumberOption.{NumberOption}
-use Rattle.options.specs.declared.option.NumberOption.TheVariants.{Streams, Slots}
+use Rattle.options.specs.declared.option.NumberOption.TheVariants.{Streams, Slots, MaxBytes}
 use Rattle.options.specs.declared.option.Span.{Span}
 
 -- the name of an option
 abbrev pub name_of : NumberOption → List ℕ
 name_of Streams = codes "--streams"
 name_of Slots = codes "--slots"
+name_of MaxBytes = codes "--max-bytes"
 
 -- the least and the greatest number of an option, and the one where it is not given
 abbrev pub span_of : NumberOption → Span
 span_of Streams = record { least = 2; greatest = 4; default = Some 4 }
 span_of Slots = record { least = 1; greatest = 512; default = Some 64 }
+span_of MaxBytes = record { least = 0; greatest = 2 ^ 40; default = Some (2 ^ 40) }
 
 -- an option has this name
 abbrev pub is_known : List NumberOption → List ℕ → Bool

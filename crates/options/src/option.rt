@@ -8,6 +8,8 @@ pub enum NumberOption {
     Streams,
     /// `--slots`: how many queries may live at once, 1 to 512; 64 where it is not given.
     Slots,
+    /// `--max-bytes`: how many bytes of input are taken at most, 0 to 2^40; 2^40 where it is not given.
+    MaxBytes,
 }
 
 /// Which numbers an option takes.
@@ -26,6 +28,7 @@ pub fn name_of(option: NumberOption) -> &'static [u8]
     match option {
         NumberOption::Streams => b"--streams",
         NumberOption::Slots => b"--slots",
+        NumberOption::MaxBytes => b"--max-bytes",
     }
 }
 
@@ -43,6 +46,11 @@ pub fn span_of(option: NumberOption) -> Span
             least: 1,
             greatest: 512,
             default: Some(64),
+        },
+        NumberOption::MaxBytes => Span {
+            least: 0,
+            greatest: 1_099_511_627_776,
+            default: Some(1_099_511_627_776),
         },
     }
 }

@@ -1,4 +1,5 @@
+pub mod BrokenLaws
 pub mod GoesLaws
-pub mod DueLaws
+pub mod ServedLaws
 pub mod CueLaws
 pub mod ProcessedLaws

@@ -1,6 +1,7 @@
 pub mod AnswerText
 pub mod Due
-pub mod Calls
+pub mod Broken
+pub mod Served
 pub mod Stop
 pub mod Processor
 pub use Rattle.as_base.specs.Range

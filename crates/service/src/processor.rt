@@ -1,14 +1,16 @@
-ghost use Rattle.std.specs.Prelude.{◌≡◌, ◌<◌, ◌≤◌, ◌+◌, ◌++◌, ◌^◌, [], ◌∷◌, ℕ, List, IfOk, OnOk};
+ghost use Rattle.std.specs.Prelude.{◌≡◌, ◌<◌, ◌≤◌, ◌+◌, ◌++◌, ◌^◌, [], ◌∷◌, ℕ, List, length, IfOk, OnOk, OnErr};
+ghost use Rattle.std.specs.List.{flat_map};
 ghost use Rattle.as_base.specs.declared.config.Config.{Config};
 ghost use Rattle.as_base.specs.declared.item.Item.{Item};
 ghost use Rattle.as_base.specs.Range.{InRange};
 ghost use Rattle.as_outside.specs.declared.entry.Entry.{Entry};
-ghost use Rattle.as_outside.specs.Makes.{Does};
-ghost use Rattle.service.specs.AnswerText.{done_text};
-ghost use Rattle.service.specs.Processor.{HasTaken, HasProcessed, HasPrepared, IsFinished};
+ghost use Rattle.service.specs.AnswerText.{broken_text, done_text, last_text};
+ghost use Rattle.service.specs.Broken.{HasRoom};
+ghost use Rattle.service.specs.Processor.{broken_in, IsLeftBefore, IsLeftAmongEnds, HasTaken, HasProcessed, HasPrepared, IsFinished};
+ghost use Rattle.service.specs.Stop.{Continues, Goes, IsStopped, IsStoppedAtEnd};
 ghost use Rattle.session.specs.Shut.{end_of, shut};
-ghost use Rattle.service.specs.Stop.{Goes};
 
+use crate::broken::Broken;
 use crate::delivery::{deliver, put_all, say};
 use crate::engine::QueryEngine;
 use crate::stop::Stop;
@@ -27,6 +29,8 @@ pub struct Processor<E> {
     pub text: Vec<u8>,
     /// The lines for which all memory was had.
     pub lines: u64,
+    /// The outputs that broke: a begin of each failed, or a put.
+    pub broken: Broken,
 }
 
 impl<E: QueryEngine> Processor<E> {
@@ -40,10 +44,11 @@ impl<E: QueryEngine> Processor<E> {
             engine,
             text: Vec::new(alloc),
             lines: 0,
+            broken: Broken::new(alloc),
         }
     }
 
-    // Takes an item and makes the text of its answer, before any call.
+    // Takes an item, makes the text of its answer, and room for the outputs that may break by it, before any call.
     fn prepare(&mut self, item: Item) -> Result<Fed, NoMemory>
         requires range { InRange item }
         requires few { E.count self.old.engine < 2 ^ 62 }
@@ -51,51 +56,62 @@ impl<E: QueryEngine> Processor<E> {
             HasPrepared E.QueryEngine (E.config self.old.engine) self.new h item fed) }
         ensures config { E.config self.new.engine ≡ E.config self.old.engine }
         ensures count { OnOk result (E.count self.new.engine ≡ E.count self.old.engine + 1) }
+        ensures broken { broken_in self.new ≡ broken_in self.old }
+        ensures room { IfOk result (λ fed. HasRoom self.new.broken (length fed.pieces + 1)) }
+        ensures lines { OnErr result (self.new.lines ≡ self.old.lines) }
     {
         let fed = self.engine.feed(item)?;
         self.text.clear();
         if let Some(answer) = fed.answer {
             answer_text(&answer, &mut self.text)?;
         }
+        self.broken.reserve(fed.pieces.as_slice().len() + 1)?;
         self.lines = self.engine.items();
         Ok(fed)
     }
 
     /// Takes an item, begins the output of a query that it created, puts the pieces that it made due, and says its answer.
-    /// It stops at the first call that fails, and at want of memory before any call.
+    /// A begin or a put that fails breaks its output alone: it is listed, and gets no further call. It stops at want of
+    /// memory, before any call, and where the say fails.
     pub fn process<S: Shelf>(&mut self, shelf: &mut S, item: Item) -> Result<(), Stop>
         requires range { InRange item }
         requires few { E.count self.old.engine < 2 ^ 62 }
         ensures calls { (c : Config) (h : List Item) (calls : List Entry) → HasProcessed E.QueryEngine c self.old h calls →
-            Does (S.seen shelf.old) (S.seen shelf.new) (Goes result (λ more.
-            HasProcessed E.QueryEngine c self.new (h ++ item ∷ []) (calls ++ more))) }
+            Continues (S.seen shelf.old) (S.seen shelf.new) calls (Goes result
+            (HasProcessed E.QueryEngine c self.new (h ++ item ∷ []))
+            (λ s. IsStopped c s self.new.lines (broken_in self.new) (h ++ item ∷ []))) }
         ensures count { OnOk result (E.count self.new.engine ≡ E.count self.old.engine + 1) }
     {
         let fed = self.prepare(item)?;
-        deliver(shelf, &fed, &self.text)
+        deliver(shelf, &mut self.broken, &fed);
+        say(shelf, &self.text)
     }
 
-    // Ends a stream, if it is open, and puts the pieces that this makes due.
+    // Ends a stream, if it is open, and puts the pieces that this makes due. It stops at want of memory, before any call.
     fn end<S: Shelf>(&mut self, shelf: &mut S, stream: StreamId) -> Result<(), Stop>
         requires { E.count self.old.engine < 2 ^ 62 }
         ensures calls { (c : Config) (lines : ℕ) (h : List Item) (calls : List Entry) → HasTaken E.QueryEngine c self.old lines h calls →
-            Does (S.seen shelf.old) (S.seen shelf.new) (Goes result (λ more.
-            HasTaken E.QueryEngine c self.new lines (h ++ end_of c h stream) (calls ++ more))) }
+            Continues (S.seen shelf.old) (S.seen shelf.new) calls (Goes result
+            (HasTaken E.QueryEngine c self.new lines (h ++ end_of c h stream))
+            (IsLeftBefore c self.new lines h)) }
         ensures count { OnOk result (E.count self.new.engine ≤ E.count self.old.engine + 1) }
     {
         if !self.engine.is_open(stream) {
             return Ok(());
         }
         let fed = self.engine.feed(Item::End(stream))?;
-        put_all(shelf, fed.pieces.as_slice())
+        self.broken.reserve(fed.pieces.as_slice().len())?;
+        put_all(shelf, &mut self.broken, fed.pieces.as_slice());
+        Ok(())
     }
 
     // Ends the streams that are open, in order, and puts the pieces that this makes due.
     fn end_all<S: Shelf>(&mut self, shelf: &mut S) -> Result<(), Stop>
         requires { E.count self.old.engine + 4 ≤ 2 ^ 62 }
         ensures { (c : Config) (lines : ℕ) (h : List Item) (calls : List Entry) → HasTaken E.QueryEngine c self.old lines h calls →
-            Does (S.seen shelf.old) (S.seen shelf.new) (Goes result (λ more.
-            HasTaken E.QueryEngine c self.new lines (shut c h) (calls ++ more))) }
+            Continues (S.seen shelf.old) (S.seen shelf.new) calls (Goes result
+            (HasTaken E.QueryEngine c self.new lines (shut c h))
+            (IsLeftAmongEnds c self.new lines h)) }
     {
         self.end(shelf, StreamId::A)?;
         self.end(shelf, StreamId::B)?;
@@ -103,19 +119,41 @@ impl<E: QueryEngine> Processor<E> {
         self.end(shelf, StreamId::D)
     }
 
-    /// Ends the streams that are open, in order, puts the pieces that this makes due, and says the last line. It stops at
-    /// the first call that fails, and at want of memory before the calls that it is for.
+    /// Ends the streams that are open, in order, puts the pieces that this makes due, and says the last lines: one for each
+    /// broken output, and how many lines were taken. It stops at want of memory, before the calls that it is for, and where
+    /// the say fails.
     pub fn finish<S: Shelf>(&mut self, shelf: &mut S) -> Result<(), Stop>
         requires { E.count self.old.engine + 4 ≤ 2 ^ 62 }
         ensures { (c : Config) (h : List Item) (calls : List Entry) → HasProcessed E.QueryEngine c self.old h calls →
-            Does (S.seen shelf.old) (S.seen shelf.new) (Goes result (λ more.
-            IsFinished c self.new.lines h (calls ++ more))) }
+            Continues (S.seen shelf.old) (S.seen shelf.new) calls (Goes result
+            (IsFinished c self.new.lines (broken_in self.new) h)
+            (λ s. IsStoppedAtEnd c s self.new.lines (broken_in self.new) h)) }
     {
         self.end_all(shelf)?;
         self.text.clear();
-        append_done(self.lines, &mut self.text)?;
+        append_last(self.lines, &self.broken, &mut self.text)?;
         say(shelf, &self.text)
     }
+}
+
+// Appends a line for each broken output.
+fn append_broken(broken: &[u64], out: &mut Vec<u8>) -> Result<(), NoMemory>
+    ensures { OnOk result (out.new.items ≡ out.old.items ++ flat_map broken_text broken.now) }
+{
+    for n in broken {
+        append_broken_line(*n, out)?;
+    }
+    Ok(())
+}
+
+// Appends the line that says that output n is broken.
+fn append_broken_line(n: u64, out: &mut Vec<u8>) -> Result<(), NoMemory>
+    ensures { OnOk result (out.new.items ≡ out.old.items ++ broken_text n) }
+{
+    out.extend_from_slice(b"broken")?;
+    append_spaced_decimal(n, out)?;
+    out.extend_from_slice(b"\n")?;
+    Ok(())
 }
 
 // Appends the last line of a run.
@@ -126,4 +164,12 @@ fn append_done(lines: u64, out: &mut Vec<u8>) -> Result<(), NoMemory>
     append_spaced_decimal(lines, out)?;
     out.extend_from_slice(b"\n")?;
     Ok(())
+}
+
+// Appends the last lines of a run.
+fn append_last(lines: u64, broken: &Broken, out: &mut Vec<u8>) -> Result<(), NoMemory>
+    ensures { OnOk result (out.new.items ≡ out.old.items ++ last_text broken.now.numbers.items lines) }
+{
+    append_broken(&broken.numbers, out)?;
+    append_done(lines, out)
 }

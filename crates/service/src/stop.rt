@@ -3,7 +3,7 @@ ghost use Rattle.std.specs.Prelude.{◌≡◌};
 
 use as_base::NoMemory;
 
-/// Why a run stopped before the end of its input.
+/// Why a run stopped before the end of its input. An output that breaks stops nothing.
 #[derive(Clone, Copy, Debug, PartialEq, Eq)]
 pub enum Stop {
     /// There was no memory.
@@ -12,8 +12,6 @@ pub enum Stop {
     ReadFault,
     /// A say failed.
     AnswerFault,
-    /// A begin of this output failed, or a put on it.
-    OutputBroken(u64),
     /// The byte after the limit was pulled.
     TooLong,
 }

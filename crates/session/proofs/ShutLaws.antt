@@ -57,7 +57,7 @@ answer_to-end c h s o = go (is_configured c s) (has_ended c h s) o
     go true true e = cc e
     go false b e = cc e
 
-answers-end : (c : Config) (h : List Item) (s : StreamId) → answers c (h ++ end_of c h s) ≡ answers c h
+pub answers-end : (c : Config) (h : List Item) (s : StreamId) → answers c (h ++ end_of c h s) ≡ answers c h
 answers-end c h s = go (is_open c h s) refl
   where
     go : (b : Bool) → is_open c h s ≡ b → answers c (h ++ cond b (End s ∷ []) []) ≡ answers c h

@@ -8,6 +8,12 @@ use std::test::Fail;
 // One query's only row, which its watermark passes.
 const PASSED: &[u8] = b"create select from a\nrec a 5 1 10 0 0 0\nmark a 6\n";
 
+// The same, and a line that nothing ends.
+const UNFINISHED: &[u8] = b"create select from a\nrec a 5 1 10 0 0 0\nmark a 6\nmark a";
+
+// Two queries, and a row of both, which the watermark passes.
+const TWO: &[u8] = b"create select from a\ncreate select from a\nrec a 5 1 10 0 0 0\nmark a 6\n";
+
 // Three queries, created at 0, at 2 and at 3.
 const THREE: &[u8] =
     b"create select from a\nrec a 1 7 1 0 0 0\ncreate select from a\nrec a 2 7 2 0 0 0\n\
@@ -40,18 +46,27 @@ const DELETED: &[u8] =
     b"create select from b where v1 > 4\nrec b 5 1 9 0 0 0\nmark a 9\nrec b 6 1 4 0 0 0\ndelete 1\n\
     rec b 7 1 5 0 0 0\nrec b 10 1 5 0 0 0\nmark b 8\n";
 
-// A desk over the input, whose pulls go by the cuts; if a call is named, it fails with nothing added.
+// A desk over the input, whose pulls go by the cuts; if a call is named, it fails after so many bytes.
 fn desk(
     alloc: Global,
     input: &[u8],
     cuts: &[usize],
-    failing: Option<u64>,
+    failing: Option<(u64, usize)>,
 ) -> Result<MemDesk, Fail> {
     let mut fails = Vec::new(alloc);
     if let Some(call) = failing {
-        fails.push((call, 0))?;
+        fails.push(call)?;
     }
     Ok(MemDesk::new(alloc, input.to_vec(alloc)?, cuts.to_vec(alloc)?, fails).map_err(|_| "memory")?)
+}
+
+// The words of a text, parted by spaces.
+fn words_of(alloc: Global, text: &str) -> Result<Vec<String>, Fail> {
+    let mut words = Vec::new(alloc);
+    for word in text.split_whitespace() {
+        words.push(String::from_str(alloc, word)?)?;
+    }
+    Ok(words)
 }
 
 // What `astream` reports with these words, parted by spaces.
@@ -61,10 +76,7 @@ fn called<R: Threads + Sync>(
     desk: &mut MemDesk,
     text: &str,
 ) -> Result<Report, Fail> {
-    let mut words = Vec::new(alloc);
-    for word in text.split_whitespace() {
-        words.push(String::from_str(alloc, word)?)?;
-    }
+    let words = words_of(alloc, text)?;
     Ok(astream(rt, alloc, &words, desk, &FreeGate))
 }
 
@@ -229,7 +241,9 @@ fn other_words_touch_nothing(rt: HostRuntime) -> Result<(), Fail> {
     is_usage(&rt, alloc, "")?;
     is_usage(&rt, alloc, "run --slots 0")?;
     is_usage(&rt, alloc, "run --slots 4 --slots 4")?;
-    is_usage(&rt, alloc, "run --lane=1")
+    is_usage(&rt, alloc, "run --lane=1")?;
+    is_usage(&rt, alloc, "run --max-bytes 1099511627777")?;
+    is_usage(&rt, alloc, "run --max-bytes")
 }
 
 #[test]
@@ -273,21 +287,22 @@ fn the_input_may_end_anywhere(rt: HostRuntime) -> Result<(), Fail> {
     Ok(())
 }
 
-// Of a run over `PASSED`, a line a pull, the call of this number fails: the status, the lines, what is said, and what
-// output 1 holds.
+// Of a run over `PASSED`, a line a pull, the call of this number fails: how many calls there are, the status, the lines,
+// what is said, and what output 1 holds.
 fn fails_at<R: Threads + Sync + Abort>(
     rt: &R,
     alloc: Global,
     call: u64,
+    calls: usize,
     status: Status,
     lines: u64,
     answers: &[u8],
     output: &[u8],
 ) -> Result<(), Fail> {
-    let mut desk = desk(alloc, PASSED, &[21, 19], Some(call))?;
+    let mut desk = desk(alloc, PASSED, &[21, 19], Some((call, 0)))?;
     let report = called(rt, alloc, &mut desk, "run")?;
     assert!(rt; report.status == status && report.lines == lines);
-    assert!(rt; desk.log().len() as u64 == call);
+    assert!(rt; desk.log().len() == calls);
     assert!(rt; has(alloc, &desk, answers, output)?);
     Ok(())
 }
@@ -296,15 +311,121 @@ fn fails_at<R: Threads + Sync + Abort>(
 fn each_call_may_fail(rt: HostRuntime) -> Result<(), Fail> {
     let alloc = rt.alloc();
     let created = b"1 created 1 at 0\n";
+    let broken = b"1 created 1 at 0\nbroken 1\ndone 3\n";
     let row = b"5 1 10 0 0 0\n";
-    fails_at(&rt, alloc, 1, Status::ReadFault, 0, b"", b"not begun")?;
-    fails_at(&rt, alloc, 2, Status::OutputBroken, 1, b"", b"not begun")?;
-    fails_at(&rt, alloc, 3, Status::AnswerFault, 1, b"", b"")?;
-    fails_at(&rt, alloc, 4, Status::ReadFault, 1, created, b"")?;
-    fails_at(&rt, alloc, 5, Status::ReadFault, 2, created, b"")?;
-    fails_at(&rt, alloc, 6, Status::OutputBroken, 3, created, b"")?;
-    fails_at(&rt, alloc, 7, Status::ReadFault, 3, created, row)?;
-    fails_at(&rt, alloc, 8, Status::AnswerFault, 3, created, row)
+    fails_at(&rt, alloc, 1, 1, Status::ReadFault, 0, b"", b"not begun")?;
+    fails_at(
+        &rt,
+        alloc,
+        2,
+        7,
+        Status::OutputBroken,
+        3,
+        broken,
+        b"not begun",
+    )?;
+    fails_at(&rt, alloc, 3, 3, Status::AnswerFault, 1, b"", b"")?;
+    fails_at(&rt, alloc, 4, 4, Status::ReadFault, 1, created, b"")?;
+    fails_at(&rt, alloc, 5, 5, Status::ReadFault, 2, created, b"")?;
+    fails_at(&rt, alloc, 6, 8, Status::OutputBroken, 3, broken, b"")?;
+    fails_at(&rt, alloc, 7, 7, Status::ReadFault, 3, created, row)?;
+    fails_at(&rt, alloc, 8, 8, Status::AnswerFault, 3, created, row)
+}
+
+// Of a run over `TWO`, all in one pull, this call fails after so many bytes: the status, the lines, the broken outputs,
+// what is said, and what outputs 1 and 2 hold.
+fn two_fail_at<R: Threads + Sync + Abort>(
+    rt: &R,
+    alloc: Global,
+    failing: (u64, usize),
+    status: Status,
+    lines: u64,
+    broken: &[u64],
+    answers: &[u8],
+    one: &[u8],
+    two: &[u8],
+) -> Result<(), Fail> {
+    let mut desk = desk(alloc, TWO, &[], Some(failing))?;
+    let report = called(rt, alloc, &mut desk, "run")?;
+    assert!(rt; report.status == status && report.lines == lines);
+    assert!(rt; report.broken.as_slice() == broken);
+    assert!(rt; has(alloc, &desk, answers, one)?);
+    assert!(rt; held(alloc, desk.log(), 2)?.as_slice() == two);
+    Ok(())
+}
+
+// A begin or a put fails: the run over `TWO` goes on to its end, output n is broken, and outputs 1 and 2 hold this.
+fn two_break_at<R: Threads + Sync + Abort>(
+    rt: &R,
+    alloc: Global,
+    failing: (u64, usize),
+    n: u64,
+    one: &[u8],
+    two: &[u8],
+) -> Result<(), Fail> {
+    let mut answers = b"1 created 1 at 0\n2 created 2 at 0\n".to_vec(alloc)?;
+    push_line(&mut answers, b"broken ", n)?;
+    answers.extend_from_slice(b"done 4\n")?;
+    two_fail_at(
+        rt,
+        alloc,
+        failing,
+        Status::OutputBroken,
+        4,
+        &[n],
+        &answers,
+        one,
+        two,
+    )
+}
+
+#[test]
+fn an_output_breaks_alone(rt: HostRuntime) -> Result<(), Fail> {
+    let alloc = rt.alloc();
+    let row = b"5 1 10 0 0 0\n";
+    two_break_at(&rt, alloc, (2, 0), 1, b"not begun", row)?;
+    two_break_at(&rt, alloc, (4, 0), 2, row, b"not begun")?;
+    two_break_at(&rt, alloc, (6, 0), 1, b"", row)?;
+    two_break_at(&rt, alloc, (6, 3), 1, b"5 1", row)?;
+    two_break_at(&rt, alloc, (7, 0), 2, row, b"")
+}
+
+// A pull or a say fails: the run over `TWO` ends there, and no output is broken.
+fn two_end_at<R: Threads + Sync + Abort>(
+    rt: &R,
+    alloc: Global,
+    call: u64,
+    status: Status,
+    lines: u64,
+    answers: &[u8],
+    one: &[u8],
+    two: &[u8],
+) -> Result<(), Fail> {
+    two_fail_at(rt, alloc, (call, 0), status, lines, &[], answers, one, two)
+}
+
+#[test]
+fn a_pull_and_a_say_end_the_run_of_two(rt: HostRuntime) -> Result<(), Fail> {
+    let alloc = rt.alloc();
+    let first = b"1 created 1 at 0\n";
+    let both = b"1 created 1 at 0\n2 created 2 at 0\n";
+    let row = b"5 1 10 0 0 0\n";
+    let none = b"not begun";
+    two_end_at(&rt, alloc, 1, Status::ReadFault, 0, b"", none, none)?;
+    two_end_at(&rt, alloc, 3, Status::AnswerFault, 1, b"", b"", none)?;
+    two_end_at(&rt, alloc, 5, Status::AnswerFault, 2, first, b"", b"")?;
+    two_end_at(&rt, alloc, 8, Status::ReadFault, 4, both, row, row)?;
+    two_end_at(&rt, alloc, 9, Status::AnswerFault, 4, both, row, row)
+}
+
+#[test]
+fn an_unfinished_line_is_not_taken(rt: HostRuntime) -> Result<(), Fail> {
+    let alloc = rt.alloc();
+    let mut desk = desk(alloc, UNFINISHED, &[], Some((5, 0)))?;
+    let report = called(&rt, alloc, &mut desk, "run")?;
+    assert!(rt; report.status == Status::ReadFault && report.lines == 3);
+    assert!(rt; has(alloc, &desk, b"1 created 1 at 0\n", b"5 1 10 0 0 0\n")?);
+    Ok(())
 }
 
 fn entry_bytes(alloc: Global, text: &[u8]) -> Result<Bytes, Fail> {
@@ -356,25 +477,44 @@ fn a_row_at_the_mark_waits_for_the_end(rt: HostRuntime) -> Result<(), Fail> {
     makes(&rt, alloc, input, &[], &log)
 }
 
-// What a run that takes at most ten bytes reports.
-fn within_ten(alloc: Global, input: &[u8]) -> Result<(Status, u64), Fail> {
+// With these words the input is longer than the limit before its first line ends: nothing is said.
+fn is_too_long<R: Threads + Sync + Abort>(
+    rt: &R,
+    alloc: Global,
+    words: &str,
+    input: &[u8],
+) -> Result<(), Fail> {
     let mut desk = desk(alloc, input, &[], None)?;
-    let config = Config {
-        streams: 4,
-        slots: 64,
-        parts: 4,
-        lane: 1024,
-    };
-    let report = run_within(alloc, &mut desk, config, 10);
-    Ok((report.status, report.lines))
+    let report = called(rt, alloc, &mut desk, words)?;
+    assert!(rt; report.status == Status::TooLong && report.lines == 0);
+    assert!(rt; has(alloc, &desk, b"", b"not begun")?);
+    Ok(())
 }
 
 #[test]
 fn the_limit_is_exact(rt: HostRuntime) -> Result<(), Fail> {
-    assert_eq!(rt; within_ten(rt.alloc(), b"mark a 123")?, (Status::Done, 1));
-    assert_eq!(rt;
-        within_ten(rt.alloc(), b"mark a 123\n")?,
-        (Status::TooLong, 0)
-    );
+    let alloc = rt.alloc();
+    let ten = "run --max-bytes 10";
+    let no = "run --max-bytes 0";
+    is_too_long(&rt, alloc, ten, b"mark a 123\n")?;
+    answers(&rt, alloc, ten, b"mark a 123", b"done 1\n", b"not begun")?;
+    is_too_long(&rt, alloc, no, b"m")?;
+    answers(&rt, alloc, no, b"", b"done 0\n", b"not begun")
+}
+
+// What a rehearsal with these words, parted by spaces, reports for `PASSED`.
+fn rehearsed<R: Threads + Sync>(rt: &R, alloc: Global, text: &str) -> Result<Report, Fail> {
+    let words = words_of(alloc, text)?;
+    Ok(rehearse(rt, alloc, &words, PASSED.to_vec(alloc)?, &FreeGate)?)
+}
+
+#[test]
+fn a_rehearsal_tells_how_a_run_ends(rt: HostRuntime) -> Result<(), Fail> {
+    let alloc = rt.alloc();
+    let report = rehearsed(&rt, alloc, "run")?;
+    assert!(rt; report.status == Status::Done && report.lines == 3);
+    assert!(rt; report.broken.as_slice().is_empty());
+    let report = rehearsed(&rt, alloc, "run --max-bytes 10")?;
+    assert!(rt; report.status == Status::TooLong);
     Ok(())
 }

@@ -3,7 +3,7 @@ use Rattle.std.proofs.lemmas.List.{length-take-le, take-take}
 use Rattle.std.proofs.lemmas.Result.{err_from_is_err_and}
 use Rattle.as_outside.specs.declared.entry.Entry.TheVariants.{Pulled, PullFailed}
 use Rattle.as_outside.proofs.MakesLaws.{makes_after}
-use Rattle.astream_top.proofs.PullLaws.{cut_off, taken_after, stopped_after, took_all, took_part}
+use Rattle.astream_top.proofs.PullLaws.{cut_off, taken_after, stopped_after, took_all, took_part, still_emptied, part_within}
 use Rattle.astream_top.proofs.run.pull_once.Goals as goal
 
 pub returns-in_err-pulled-clause-calls : goal.returns-in_err-pulled-clause-calls
@@ -23,7 +23,8 @@ returns-in_err-take_bytes-clause-calls g c = λ d calls at.
     record {
       calls = Pulled x ∷ taken.calls;
       makes = makes_after _ _ _ _ _ c.in_ok-pulled.ensures.ok taken.makes;
-      holds = rw (p.1, p.2) (stopped_after c.args.run.now c.in_err-take_bytes.field-0.0 _ _ calls taken.calls x at taken.holds.0 taken.holds.1);
+      holds = rw (p.1, p.2) (stopped_after c.args.run.now c.take_bytes.new.run c.in_err-take_bytes.field-0.0 c.args.most calls taken.calls x _ at taken.holds.0
+          (part_within c.in_ok-pulled.pulled c.args.most c.min-within.result c.pull.new.buf (omega (arith, c.min-within.ensures))) taken.holds.1);
     }
 
 pub returns-then-within-pulled-clause-calls : goal.returns-then-within-pulled-clause-calls
@@ -50,6 +51,12 @@ returns-clause-calls g c = λ d calls at.
     record {
       calls = Pulled x ∷ taken.calls;
       makes = makes_after _ _ _ _ _ c.in_ok-pulled.ensures.ok taken.makes;
-      holds = took_all c.args.run.now c.take_bytes.new.run c.args.most c.in_ok-pulled.pulled calls taken.calls x _ at taken.holds.0 taken.holds.1
+      holds = took_all c.args.run.now c.take_bytes.new.run c.in_ok-pulled.pulled calls taken.calls x _ at taken.holds.0 taken.holds.1
           (ap (λ n. take n c.pull.new.buf) whole) (length-take-le c.in_ok-pulled.pulled c.pull.new.buf room);
     }
+
+pub returns-clause-emptied : goal.returns-clause-emptied
+returns-clause-emptied g c = λ d calls at empty.
+    let x = take c.in_ok-pulled.pulled c.pull.new.buf in
+    let taken = c.in_ok-take_bytes.ensures.calls _ _ _ (taken_after c.args.run.now calls x at) in
+    still_emptied _ _ taken.calls taken.makes taken.holds.0 (c.in_ok-pulled.ensures.emptied empty)

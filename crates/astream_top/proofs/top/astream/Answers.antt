@@ -1,6 +1,13 @@
-use Rattle.std.proofs.Common.{[], rules}
+use Rattle.std.proofs.Common.{[], map, string_bytes, rules}
 use Rattle.as_outside.proofs.MakesLaws.{makes_none}
+use Rattle.astream_top.proofs.CommandLaws.{run_fits, run_small}
 use Rattle.astream_top.proofs.top.astream.Goals as goal
 
 pub returns-in-Err-clause-explained : goal.returns-in-Err-clause-explained
 returns-in-Err-clause-explained g c = λ text is. (record { calls = []; makes = makes_none _; holds = search rules }, search rules)
+
+pub run_within-requires-clause-small : goal.run_within-requires-clause-small
+run_within-requires-clause-small g c = run_small (map string_bytes c.args.words.now) c.in-Ok-Some-Run.config c.in-Ok-Some-Run.limit (search rules)
+
+pub run_within-requires-clause-fits : goal.run_within-requires-clause-fits
+run_within-requires-clause-fits g c = run_fits (map string_bytes c.args.words.now) c.in-Ok-Some-Run.config c.in-Ok-Some-Run.limit (search rules)

@@ -1,13 +1,38 @@
-use Rattle.std.proofs.Common.{◌∙◌, ap, sym}
-use Rattle.session.specs.Outcome.{created}
-use Rattle.service.specs.Calls.{calls_of}
-use Rattle.service.proofs.GoesLaws.{goes_weaker, goes_out, no_calls}
-use Rattle.service.proofs.ProcessedLaws.{processed-step}
+use Rattle.std.proofs.Common.{◌++◌, ◌∷◌, [], refl, sym, ◌∙◌, subst}
+use Rattle.session.specs.Book.{numbers}
+use Rattle.session.specs.View.{text_of}
+use Rattle.service.specs.declared.stop.Stop.TheVariants.{NoMemory}
+use Rattle.service.specs.AnswerText.{answers_text}
+use Rattle.service.specs.Processor.{broken_in, HasPrepared, HasProcessed}
+use Rattle.service.specs.Served.{HasServed}
+use Rattle.service.specs.Stop.{Goes, IsCutShort, IsStopped}
+use Rattle.service.proofs.GoesLaws.{no_call, goes_out, then, weaker}
+use Rattle.service.proofs.ProcessedLaws.{served, stopped_before, with_broken, processed}
 use Rattle.service.proofs.processor.Processor.process.Goals as goal
+
+pub returns-in_err-fed-clause-calls : goal.returns-in_err-fed-clause-calls
+returns-in_err-fed-clause-calls g c = λ d h calls before.
+    let x = c.args.item in
+    let p = c.prepare.new.self in
+    goes_out _ _ calls _ NoMemory (HasProcessed g.E.QueryEngine d p (h ++ x ∷ [])) (λ s. IsStopped d s p.lines (broken_in p) (h ++ x ∷ [])) c.from_residual.ensures.1
+    (no_call _ calls (IsStopped d NoMemory p.lines (broken_in p) (h ++ x ∷ []))
+    (stopped_before c.args.self.now p h (h ++ x ∷ []) calls before (x ∷ [], refl) c.in_err-fed.ensures.lines c.in_err-fed.ensures.broken))
 
 pub returns-clause-calls : goal.returns-clause-calls
 returns-clause-calls g c = λ d h calls before.
-    goes_weaker _ _ _ _ _ (λ more is. processed-step g.E.QueryEngine d c.args.self.now _ h calls more c.args.item _ before (c.in_ok-fed.ensures.prepared h before.stands) c.in_ok-fed.ensures.config (sym is ∙ ap (calls_of (created c.in_ok-fed.fed.answer) c.in_ok-fed.fed.pieces) c.deref.ensures.value)) c.deliver.ensures
-
-pub returns-in_err-fed-clause-calls : goal.returns-in_err-fed-clause-calls
-returns-in_err-fed-clause-calls g c = λ d h calls before. goes_out _ _ _ _ _ c.from_residual.ensures.1 (no_calls _)
+    let e = g.E.QueryEngine in
+    let x = c.args.item in
+    let h' = h ++ x ∷ [] in
+    let p = c.prepare.new.self in
+    let fed = c.in_ok-fed.fed in
+    let ready = subst (λ k. HasPrepared e k p h x fed) before.config (c.in_ok-fed.ensures.prepared h before.stands) in
+    let begun = subst (λ l. HasServed (numbers d h) (text_of d h) (answers_text d h) l calls) (sym c.in_ok-fed.ensures.broken) (served c.args.self.now _ h calls before.left) in
+    let p' = with_broken p c.deliver.new.broken in
+    let text = c.deref.result.now in
+    let Ends = Goes c.say.result (HasProcessed e d p' h') (λ s. IsStopped d s p'.lines (broken_in p') h') in
+    then _ _ _ calls (HasServed (numbers d h') (text_of d h') (answers_text d h) (broken_in p')) Ends
+    (c.deliver.ensures d h h' (answers_text d h) calls begun ready.is_fed.adds)
+    (λ all t. weaker _ _ all
+    (Goes c.say.result (HasServed (numbers d h') (text_of d h') (answers_text d h ++ text) (broken_in p')) (IsCutShort (numbers d h') (text_of d h') (answers_text d h) text (broken_in p'))) Ends
+    (λ l u. processed p p' h x fed text c.say.result l ready (c.in_ok-fed.ensures.config ∙ before.config) ready.stands refl c.deref.ensures.value u)
+    (c.say.ensures.calls (numbers d h') (text_of d h') (answers_text d h) (broken_in p') all t))

@@ -1,6 +1,0 @@
-use Rattle.std.proofs.Common.{rules, refl, []}
-use Rattle.as_outside.proofs.MakesLaws.{put_blurred}
-use Rattle.astream.proofs.desk.RealDeskShelf.put.Goals as goal
-
-pub returns-in-Err-clause-err : goal.returns-in-Err-clause-err
-returns-in-Err-clause-err g c = ([], (_, refl), put_blurred _ _ refl refl refl _ [] (search rules) refl (λ m. c.raise.ensures))
