@@ -11,6 +11,7 @@ use Rattle.std.proofs.lemmas.List.Sums.{sum_by-remove}
 use Rattle.std.proofs.lemmas.List.Sorted.{searched}
 use Rattle.as_base.specs.Times.{times}
 use Rattle.as_base.proofs.TimesLaws.{times-cons}
+use Rattle.as_outside.proofs.MakesLaws.{same_number}
 
 pub split : (m n : ℕ) → (m < n) ⊎ (n ≤ m)
 split m zero = inr (omega arith)
@@ -36,13 +37,10 @@ pub found_or_not : (xs : List ℕ) (x : ℕ) (r : Result ℕ ℕ) → IsBinarySe
     → MatchResult r (λ i. (i < length xs) × (get_or xs i 0 ≡ x)) (λ i. (i ≤ length xs) × ((k : ℕ) → k < i → get_or xs k 0 < x) × ((k : ℕ) → i ≤ k → k < length xs → x < get_or xs k 0))
 found_or_not xs x r h up = searched xs x r h (ordered xs up)
 
-itself : (x : ℕ) → (x == x) ≡ true
-itself x = grind arith
-
 -- a number that stands at a place
 stands : (xs : List ℕ) (x i : ℕ) → i < length xs → get_or xs i 0 ≡ x → 0 < times x xs
 stands xs x i within is =
-    let one = ap {B = ℕ} (λ b. cond b 1 0) (ap (λ y. y == x) is ∙ itself x) in
+    let one = ap {B = ℕ} (λ b. cond b 1 0) (ap (λ y. y == x) is ∙ same_number x) in
     omega (arith, sum_by-remove (λ m. cond (m == x) 1 0) xs i 0 within, one)
 
 -- one that stands nowhere

@@ -1,5 +1,5 @@
 -- What each call makes of what was served.
-use Rattle.std.proofs.Common.{ℕ, ◌≡◌, ◌<◌, ◌+◌, ◌==◌, nat_lt, Bool, cond, true, false, true≢false, zero, suc, List, [], ◌∷◌, ◌++◌, length, take, get_or, refl, sym, ap, subst, ◌∙◌, append_assoc, append-nil, arith}
+use Rattle.std.proofs.Common.{ℕ, ◌≡◌, ◌<◌, ◌+◌, ◌==◌, nat_lt, Bool, cond, true, false, true≢false, Result, Ok, Err, IfErr, OnOk, OnErr, zero, suc, List, [], ◌∷◌, ◌++◌, length, take, get_or, refl, sym, ap, subst, ◌∙◌, append_assoc, append-nil, arith}
 use Rattle.std.specs.List.{AllByRecursion}
 use Rattle.std.proofs.lemmas.Bool.{lt-ltb, ltb-true}
 use Rattle.std.proofs.lemmas.List.{take_more, nil_from_length}
@@ -15,11 +15,13 @@ use Rattle.as_outside.specs.Log.{said}
 use Rattle.as_outside.specs.Outputs.{AreOutputs}
 use Rattle.as_outside.specs.Failures.{failures, say_failures}
 use Rattle.as_outside.proofs.LogLaws.{said-append}
+use Rattle.as_outside.proofs.MakesLaws.{same_number}
 use Rattle.as_outside.proofs.FailureLaws.{say_failures-append}
 use Rattle.as_outside.proofs.OutputLaws.{AreOutputs-same, AreOutputs-off, AreOutputs-begun, AreOutputs-begin_failed, AreOutputs-put, AreOutputs-put_failed, AreOutputs-skipped, AreListed-off, AreListed-fine, AreListed-failed, unbroken_new, with_bytes}
+use Rattle.service.specs.declared.stop.Stop.{Stop}
 use Rattle.service.specs.declared.stop.Stop.TheVariants.{AnswerFault}
 use Rattle.service.specs.Served.{HasServed, with_pieces}
-use Rattle.service.specs.Stop.{Continues, IsCutShort}
+use Rattle.service.specs.Stop.{Continues, Goes, IsCutShort}
 use Rattle.service.proofs.GoesLaws.{no_call, one_call}
 
 -- a call that says nothing
@@ -58,8 +60,7 @@ one_more text i pieces p within is n =
 -- a number stands once in the list of it alone
 pub stands_once : (n : ℕ) → 0 < times n (n ∷ [])
 stands_once n =
-    let same : (n == n) ≡ true = grind arith in
-    let one = ap {B = ℕ} (λ b. cond b 1 0) same in
+    let one = ap {B = ℕ} (λ b. cond b 1 0) (same_number n) in
     omega (arith, one)
 
 -- what holds of all elements holds of each
@@ -186,18 +187,18 @@ put_broke a b p bytes front broken broken' found is unlisted' same part makes ad
     one_call a b calls (PutFailed p.n front) (HasServed numbers (with_pieces text (p ∷ [])) spoken broken') makes refl
     (served-put_failed numbers text spoken broken calls h p known none front broken' (subst (IsPrefix front) same part) (added none))
 
--- there was nothing to say, a say went well, or it failed
+-- there was nothing to say, or a say went well or failed
 pub say_nothing : (a : Seen) (bytes : List ℕ) → length bytes ≡ 0 → (numbers : List ℕ) (text : ℕ → List ℕ) (spoken broken : List ℕ) (calls : List Entry)
     → HasServed numbers text spoken broken calls → Continues a a calls (HasServed numbers text (spoken ++ bytes) broken)
 say_nothing a bytes none numbers text spoken broken calls h =
     no_call a calls (HasServed numbers text (spoken ++ bytes) broken)
     (subst (λ t. HasServed numbers text t broken calls) (sym (ap (λ l. spoken ++ l) (nil_from_length bytes none) ∙ append-nil spoken)) h)
 
-pub say_went : (a b : Seen) (bytes : List ℕ) → Makes a b (Said bytes ∷ []) → (numbers : List ℕ) (text : ℕ → List ℕ) (spoken broken : List ℕ) (calls : List Entry)
-    → HasServed numbers text spoken broken calls → Continues a b calls (HasServed numbers text (spoken ++ bytes) broken)
-say_went a b bytes makes numbers text spoken broken calls h = one_call a b calls (Said bytes) (HasServed numbers text (spoken ++ bytes) broken) makes refl (served-said numbers text spoken broken calls h bytes)
-
-pub say_stopped : (a b : Seen) (bytes front : List ℕ) → 0 < length bytes → IsPrefix front bytes → Makes a b (SayFailed front ∷ []) → (numbers : List ℕ) (text : ℕ → List ℕ) (spoken broken : List ℕ) (calls : List Entry)
-    → HasServed numbers text spoken broken calls → Continues a b calls (IsCutShort numbers text spoken bytes broken AnswerFault)
-say_stopped a b bytes front some part makes numbers text spoken broken calls h =
-    one_call a b calls (SayFailed front) (IsCutShort numbers text spoken bytes broken AnswerFault) makes refl (served-unsaid numbers text spoken broken calls h bytes front some part)
+pub say_came : (a b : Seen) (bytes : List ℕ) (r : Result (Unit {0}) Stop) → 0 < length bytes → IfErr r (λ s. s ≡ AnswerFault) → OnOk r (Makes a b (Said bytes ∷ []))
+    → OnErr r ((front : List ℕ) × IsPrefix front bytes × Makes a b (SayFailed front ∷ [])) → (numbers : List ℕ) (text : ℕ → List ℕ) (spoken broken : List ℕ) (calls : List Entry)
+    → HasServed numbers text spoken broken calls → Continues a b calls (Goes r (HasServed numbers text (spoken ++ bytes) broken) (IsCutShort numbers text spoken bytes broken))
+say_came a b bytes (Ok tt) some reason went failed numbers text spoken broken calls h =
+    one_call a b calls (Said bytes) (HasServed numbers text (spoken ++ bytes) broken) went refl (served-said numbers text spoken broken calls h bytes)
+say_came a b bytes (Err s) some reason went failed numbers text spoken broken calls h =
+    subst (λ s. Continues a b calls (IsCutShort numbers text spoken bytes broken s)) (sym reason)
+    (one_call a b calls (SayFailed failed.0) (IsCutShort numbers text spoken bytes broken AnswerFault) failed.2 refl (served-unsaid numbers text spoken broken calls h bytes failed.0 some failed.1))

@@ -1,10 +1,13 @@
-ghost use Rattle.std.specs.Prelude.{◌≡◌, ◌+◌, ◌<◌, ◌++◌, [], ◌∷◌, ℕ, List, length, IfErr};
+ghost use Rattle.std.specs.Prelude.{◌≡◌, ◌+◌, ◌<◌, ◌++◌, [], ◌∷◌, ℕ, List, length, IfErr, OnOk, OnErr};
 ghost use Rattle.std.specs.List.{AllByRecursion};
 ghost use Rattle.std.specs.Option.{option_to_list};
+ghost use Rattle.as_words.specs.Prefix.{IsPrefix};
 ghost use Rattle.as_base.specs.Times.{times};
 ghost use Rattle.as_base.specs.declared.config.Config.{Config};
 ghost use Rattle.as_base.specs.declared.item.Item.{Item};
 ghost use Rattle.as_outside.specs.declared.entry.Entry.{Entry};
+ghost use Rattle.as_outside.specs.declared.entry.Entry.TheVariants.{Said, SayFailed};
+ghost use Rattle.as_outside.specs.Makes.{Makes};
 ghost use Rattle.session.specs.Book.{numbers};
 ghost use Rattle.session.specs.View.{text_of};
 ghost use Rattle.session.specs.Outcome.{created, Adds};
@@ -107,6 +110,19 @@ pub fn put_all<S: Shelf>(shelf: &mut S, broken: &mut Broken, pieces: &[Piece])
     }
 }
 
+// Says the text. Where that fails, the run stops.
+fn say_text<S: Shelf>(shelf: &mut S, text: &[u8]) -> Result<(), Stop>
+    ensures stop { IfErr result (λ s. s ≡ Stop.AnswerFault) }
+    ensures ok { OnOk result (Makes (S.seen shelf.old) (S.seen shelf.new) (Said text.now ∷ [])) }
+    ensures err { OnErr result ((front : List ℕ) × IsPrefix front text.now ×
+        Makes (S.seen shelf.old) (S.seen shelf.new) (SayFailed front ∷ [])) }
+{
+    match shelf.say(text) {
+        Ok(()) => Ok(()),
+        Err(_) => Err(Stop::AnswerFault),
+    }
+}
+
 /// Says the text, if there is any. The one stop is `AnswerFault`, where the say failed.
 pub fn say<S: Shelf>(shelf: &mut S, text: &[u8]) -> Result<(), Stop>
     ensures stop { IfErr result (λ s. s ≡ Stop.AnswerFault) }
@@ -119,8 +135,5 @@ pub fn say<S: Shelf>(shelf: &mut S, text: &[u8]) -> Result<(), Stop>
     if text.is_empty() {
         return Ok(());
     }
-    match shelf.say(text) {
-        Ok(()) => Ok(()),
-        Err(_) => Err(Stop::AnswerFault),
-    }
+    say_text(shelf, text)
 }
