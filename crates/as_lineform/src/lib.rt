@@ -2,6 +2,8 @@
 #![tactic(auto)]
 
 mod answer;
+mod digits;
+mod front;
 mod item;
 mod lines;
 mod reading;

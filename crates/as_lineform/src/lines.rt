@@ -1,12 +1,14 @@
-ghost use Rattle.std.specs.Prelude.{◌≡◌, List, ℕ, [], ◌∷◌, ◌++◌, Option, Some, IfOk, IfSome, IsTrue, ◌↔◌, OnErr};
+ghost use Rattle.std.specs.Prelude.{◌≡◌, ◌≤◌, ◌<◌, ◌==◌, List, ℕ, [], ◌∷◌, ◌++◌, Option, Some, IfOk, IfSome, IsTrue, ◌↔◌, OnErr, length, take, position};
 ghost use Rattle.std.specs.Option.{option_to_list};
 ghost use Rattle.as_base.specs.Range.{IsSpelled};
+ghost use Rattle.as_base.specs.declared.item.Item.{Item};
 ghost use Rattle.as_lineform.specs.Item.{IsCreation};
 ghost use Rattle.as_lineform.specs.Lines.{lines, items};
-ghost use Rattle.as_lineform.specs.Cutter.{HasRead, keep, items_in, kept_item, StepIsSpelled};
+ghost use Rattle.as_lineform.specs.Cutter.{HasRead, keep, keep_all, items_in, kept_item, EndsCreation, StepIsSpelled};
 
+use crate::front::first_record;
 use crate::item::{LINE_MAX, item_of};
-use as_base::{Cause, Item, NoMemory};
+use as_base::{Cause, Given, Item, NoMemory};
 use std::alloc::Global;
 use std::marker::Model;
 
@@ -41,6 +43,13 @@ impl Model for Lines {
     ghost invariant = { λ c. (vec_len c.line ≤ 4096) × (4096 ≤ vec_capacity c.line) };
 }
 
+// Where the first line feed is.
+fn feed_in(bytes: &[u8]) -> Option<usize>
+    ensures { result ≡ position (λ b. b == 10) bytes.now }
+{
+    bytes.iter().position(|byte| *byte == b'\n')
+}
+
 impl Lines {
     /// A cutter with room for 4,096 bytes and nothing taken. The one refusal is `NoMemory`.
     pub fn new(alloc: Global) -> Result<Lines, NoMemory>
@@ -72,6 +81,46 @@ impl Lines {
         Ok(Step::More)
     }
 
+    /// Takes bytes from the front: a line with its line feed, or a part of one. Gives how many were taken, at least one
+    /// where there are any, and the item of the line that was ended. `NoMemory` comes only at the line feed of a
+    /// creation, leaves the cutter as it was, and no byte is taken.
+    #[tactic(auto, using(crate::proofs::CutterLaws::rest_read, crate::proofs::CutterLaws::rest_lines))]
+    pub fn take(&mut self, bytes: &[u8]) -> Result<(usize, Option<Item>), NoMemory>
+        ensures within { IfOk result (λ taken. taken.0 ≤ length bytes.now) }
+        ensures some { IfOk result (λ taken. 0 < length bytes.now → 0 < taken.0) }
+        ensures reads { (before : List ℕ) → HasRead self.old before → IfOk result (λ taken.
+            HasRead self.new (before ++ take taken.0 bytes.now)
+            × (lines (before ++ take taken.0 bytes.now) ≡ lines before ++ option_to_list taken.1)) }
+        ensures range { IfOk result (λ taken. IfSome taken.1 IsSpelled) }
+        ensures cause { OnErr result (EndsCreation self.old bytes.now) }
+        ensures err { OnErr result (self.new ≡ self.old) }
+    {
+        match feed_in(bytes) {
+            Some(at) => self.take_to(bytes, at),
+            None => {
+                self.keep_all(bytes);
+                Ok((bytes.len(), None))
+            }
+        }
+    }
+
+    /// A record whose line stands whole at the front of the bytes, and how many bytes that is with its line feed, which
+    /// are then taken. It is read in place. `None` takes nothing; it also comes where the reader gives up.
+    #[tactic(auto, using(crate::proofs::CutterLaws::record_read, crate::proofs::CutterLaws::record_lines))]
+    pub fn take_record(&self, bytes: &[u8]) -> Option<(usize, Given)>
+        ensures within { IfSome result (λ taken. (0 < taken.0) × (taken.0 ≤ length bytes.now)) }
+        ensures reads { (before : List ℕ) → HasRead self.now before → IfSome result (λ taken.
+            HasRead self.now (before ++ take taken.0 bytes.now)
+            × (lines (before ++ take taken.0 bytes.now) ≡ lines before ++ Item.Rec taken.1 ∷ [])) }
+        ensures range { IfSome result (λ taken. IsSpelled (Item.Rec taken.1)) }
+    {
+        if !self.is_empty() {
+            return None;
+        }
+        let (used, given) = first_record(bytes)?;
+        Some((used, given))
+    }
+
     /// The item of the last line, if it has a byte; the cutter is empty then. `NoMemory` comes only for a creation, and
     /// changes nothing.
     pub fn finish(&mut self) -> Result<Option<Item>, NoMemory>
@@ -87,6 +136,34 @@ impl Lines {
         let item = self.kept_item()?;
         self.clear();
         Ok(Some(item))
+    }
+
+    // Takes bytes up to the first line feed, which is at this place, and that too where no byte of its line was kept
+    // before these, or none stands before it here. Else it is left to the next call, so that nothing is to be undone.
+    #[tactic(auto, using(crate::proofs::CutterLaws::taking))]
+    fn take_to(&mut self, bytes: &[u8], at: usize) -> Result<(usize, Option<Item>), NoMemory>
+        requires { position (λ b. b == 10) bytes.now ≡ Some at }
+        ensures within { IfOk result (λ taken. taken.0 ≤ length bytes.now) }
+        ensures some { IfOk result (λ taken. 0 < taken.0) }
+        ensures reads { (before : List ℕ) → HasRead self.old before → IfOk result (λ taken.
+            HasRead self.new (before ++ take taken.0 bytes.now)
+            × (lines (before ++ take taken.0 bytes.now) ≡ lines before ++ option_to_list taken.1)) }
+        ensures range { IfOk result (λ taken. IfSome taken.1 IsSpelled) }
+        ensures cause { OnErr result (EndsCreation self.old bytes.now) }
+        ensures err { OnErr result (self.new ≡ self.old) }
+    {
+        let line = &bytes[..at];
+        if self.is_empty() {
+            let item = item_of(self.alloc, line)?;
+            return Ok((at + 1, Some(item)));
+        }
+        if at == 0 {
+            let item = self.kept_item()?;
+            self.clear();
+            return Ok((1, Some(item)));
+        }
+        self.keep_all(line);
+        Ok((at, None))
     }
 
     // The line has no byte yet.
@@ -114,6 +191,15 @@ impl Lines {
     {
         self.line.clear();
         self.is_long = false;
+    }
+
+    // Adds bytes to the line.
+    fn keep_all(&mut self, bytes: &[u8])
+        ensures { self.new ≡ keep_all self.old bytes.now }
+    {
+        for byte in bytes {
+            self.keep(*byte);
+        }
     }
 
     // Adds a byte to the line, in the room that stands ready, or notes that there are too many.

@@ -136,6 +136,80 @@ fn rewritten(alloc: Global, bytes: &[u8]) -> Result<Vec<u8>, Fail> {
     Ok(out)
 }
 
+// Three lines, of which the last lacks its line feed.
+const THREE: &[u8] = b"create a\nrec b 123456789 -20 3 0 9 1\nmark c 5";
+
+// The item, written as a line.
+fn write(item: &Item, out: &mut Vec<u8>) -> Result<(), Fail> {
+    item_text(item, out)?;
+    out.push(b'\n')?;
+    Ok(())
+}
+
+// Takes what the one call or the other takes of these bytes, and gives those that are left.
+fn take_piece<'a>(lines: &mut Lines, bytes: &'a [u8], out: &mut Vec<u8>) -> Result<&'a [u8], Fail> {
+    if let Some((used, given)) = lines.take_record(bytes) {
+        write(&Item::Rec(given), out)?;
+        return Ok(&bytes[used..]);
+    }
+    let (used, item) = lines.take(bytes)?;
+    if let Some(item) = item {
+        write(&item, out)?;
+    }
+    Ok(&bytes[used..])
+}
+
+// Takes all bytes of a pull.
+fn take_pull(lines: &mut Lines, pull: &[u8], out: &mut Vec<u8>) -> Result<(), Fail> {
+    let mut left = pull;
+    for _ in pull {
+        left = take_piece(lines, left, out)?;
+    }
+    Ok(())
+}
+
+// Whether the three pulls have the three lines.
+fn are_three(alloc: Global, first: &[u8], second: &[u8], third: &[u8]) -> Result<bool, Fail> {
+    let mut lines = Lines::new(alloc)?;
+    let mut out = Vec::new(alloc);
+    take_pull(&mut lines, first, &mut out)?;
+    take_pull(&mut lines, second, &mut out)?;
+    take_pull(&mut lines, third, &mut out)?;
+    if let Some(item) = lines.finish()? {
+        item_text(&item, &mut out)?;
+    }
+    Ok(out.as_slice() == THREE)
+}
+
+#[test]
+fn pulls_may_be_cut_anywhere(rt: HostRuntime) -> Result<(), Fail> {
+    for end in 0..=THREE.len() {
+        let (front, third) = THREE.split_at(end);
+        for start in 0..=front.len() {
+            let (first, second) = front.split_at(start);
+            assert!(rt; are_three(rt.alloc(), first, second, third)?);
+        }
+    }
+    Ok(())
+}
+
+// The record's numbers have 8, 16, 17, 19 and 19 digits, and 1.
+const LONG_NUMBERS: &[u8] = b"\
+    rec a 99999999 1234567890123456 -12345678901234567 9223372036854775807 -9223372036854775808 0\n\
+";
+
+#[test]
+fn a_record_is_read_in_place(rt: HostRuntime) -> Result<(), Fail> {
+    let lines = Lines::new(rt.alloc())?;
+    let mut out = Vec::new(rt.alloc());
+    if let Some((used, given)) = lines.take_record(LONG_NUMBERS) {
+        assert_eq!(rt; used, LONG_NUMBERS.len());
+        write(&Item::Rec(given), &mut out)?;
+    }
+    assert!(rt; out.as_slice() == LONG_NUMBERS);
+    Ok(())
+}
+
 #[test]
 fn near_misses_are_in_no_form(rt: HostRuntime) -> Result<(), Fail> {
     let out = rewritten(rt.alloc(), NEAR_MISSES)?;

@@ -1,8 +1,8 @@
 -- What one pull makes of a run and its calls, and what the end of the input makes of them.
-use Rattle.std.proofs.Common.{◌≡◌, ℕ, ◌+◌, ◌≤◌, ◌==◌, cond, Result, Ok, Err, OnOk, Some, List, [], ◌∷◌, ◌++◌, length, take, take_all, min, refl, sym, ap, ◌∙◌, append_assoc, append-nil, arith, length-append, subst, inl, inr, ⊎_elim}
+use Rattle.std.proofs.Common.{◌≡◌, ℕ, ◌+◌, ◌≤◌, ◌==◌, cond, Result, Ok, Err, OnOk, Some, List, [], ◌∷◌, ◌++◌, length, take, take_all, drop, min, refl, sym, ap, ◌∙◌, append_assoc, append-nil, arith, length-append, subst, inl, inr, ⊎_elim}
 use Rattle.std.specs.Option.{option_map}
 use Rattle.std.proofs.Math.Seq.{take-append-add}
-use Rattle.std.proofs.lemmas.List.{length-take, take-take}
+use Rattle.std.proofs.lemmas.List.{length-take, take-take, take-append-drop}
 use Rattle.as_words.specs.Prefix.{IsPrefix}
 use Rattle.as_base.specs.declared.config.Config.{Config}
 use Rattle.as_base.specs.declared.item.Item.{Item}
@@ -53,6 +53,12 @@ lines-prefix a (x ∷ b) =
       more ++ next.0,
       ap lines (sym (append_assoc a (x ∷ []) b)) ∙ next.1 ∙ ap (λ l. l ++ next.0) (lines_push a x) ∙ append_assoc (lines a) more next.0,
     )
+
+-- those of a part of the bytes, among those of all
+pub lines-so_far : (k : ℕ) (before bytes : List ℕ) → IsPrefix (lines (before ++ take k bytes)) (lines (before ++ bytes))
+lines-so_far k before bytes =
+    let more = lines-prefix (before ++ take k bytes) (drop k bytes) in
+    (more.0, ap lines (ap (λ t. before ++ t) (sym (take-append-drop k bytes)) ∙ sym (append_assoc before (take k bytes) (drop k bytes))) ∙ more.1)
 
 -- the bytes of a pull that are within the limit
 pub part_within : (k most m : ℕ) (bytes : List ℕ) → m ≡ min k most → take m bytes ≡ take most (take k bytes)

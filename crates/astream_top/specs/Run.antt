@@ -1,5 +1,5 @@
 -- What a run and the calls so far stand for, and what the calls of a pull are.
-use Rattle.std.specs.Prelude.{ℕ, ◌≡◌, ◌+◌, ◌⊎◌, Result, Ok, Err, Some, List, [], ◌∷◌, length}
+use Rattle.std.specs.Prelude.{ℕ, ◌≡◌, ◌+◌, ◌⊎◌, Result, Ok, Err, Some, List, [], ◌∷◌, ◌++◌, length, take}
 use Rattle.as_base.specs.declared.config.Config.{Config}
 use Rattle.as_base.specs.declared.item.Item.{Item}
 use Rattle.as_outside.specs.declared.entry.Entry.{Entry}
@@ -15,7 +15,7 @@ use Rattle.service.specs.declared.processor.Processor.{Processor}
 use Rattle.service.specs.declared.stop.Stop.{Stop}
 use Rattle.service.specs.declared.stop.Stop.TheVariants as stop
 use Rattle.service.specs.Processor.{broken_in, HasProcessed}
-use Rattle.service.specs.Stop.{IsStopped, IsStoppedAtEnd}
+use Rattle.service.specs.Stop.{Continues, Goes, IsStopped, IsStoppedAtEnd}
 use Rattle.astream_top.specs.declared.run.Run.{Run}
 use Rattle.astream_top.specs.Prompt.{Prompt}
 use Rattle.astream_top.specs.Ends.{ReachesEnd, IsEnded}
@@ -25,9 +25,21 @@ pub record HasTaken {E : Type 0} (e : engine.Ghosts E) (c : Config) (r : Run E) 
   pub reads : HasRead r.cutter bytes
   pub processed : HasProcessed e c r.processor (lines bytes) calls
 
+-- how many bytes a call took
+abbrev pub used_by : Result ℕ Stop → ℕ
+used_by (Ok used) = used
+used_by (Err s) = 0
+
 -- the run was stopped among the lines of these items
 abbrev pub StopsIn : {E : Type 0} → Config → Processor E → List Item → Stop → List Entry → Type 0
 StopsIn c p h s calls = IsStopped c s p.lines (broken_in p) h calls
+
+-- So many bytes were taken from the front of these, and what is due for the line that they ended, if they ended one, was
+-- done; or the run was stopped there.
+abbrev pub TakesFront : {E : Type 0} → engine.Ghosts E → Run E → Run E → Seen → Seen → List ℕ → Result ℕ Stop → Type 0
+TakesFront e old new seen seen' bytes result =
+    (c : Config) (before : List ℕ) (calls : List Entry) → HasTaken e c old before calls
+    → Continues seen seen' calls (Goes result (HasTaken e c new (before ++ take (used_by result) bytes)) (StopsIn c new.processor (lines (before ++ bytes))))
 
 -- the run was stopped among the lines of these items, or at the ends that follow them
 abbrev pub StopsByEnd : {E : Type 0} → Config → Processor E → List Item → Stop → List Entry → Type 0

@@ -6,7 +6,7 @@ ghost use Rattle.views.specs.IsView.{IsView};
 ghost use Rattle.views.specs.Message.{after, Follows};
 ghost use Rattle.list_store.specs.Store.{StandsFor as StoreStands, GrowsBy};
 
-use as_base::{Answer, Config, Fed, Item, Msg, NoMemory, Pieces, StreamId};
+use as_base::{Answer, Config, Fed, Given, Item, Msg, NoMemory, Pieces, StreamId};
 use list_store::Store;
 use service::QueryEngine;
 use session::{Decision, Session};
@@ -80,6 +80,17 @@ impl QueryEngine for ListEngine {
             Decision::Acted(answer, change) => {
                 print(&mut self.store, Some(answer), &Msg::Change(change))
             },
+        }
+    }
+
+    #[inline(always)]
+    fn feed_record(&mut self, given: &Given) -> Result<Option<Answer>, NoMemory> {
+        match self.session.accept_record(given) {
+            Ok(_) => {
+                self.store.take_record(given)?;
+                Ok(None)
+            }
+            Err(refusal) => Ok(Some(refusal)),
         }
     }
 

@@ -7,10 +7,10 @@ ghost use Rattle.service.specs.declared.stop.Stop.{Stop};
 ghost use Rattle.as_lineform.specs.Lines.{lines, items};
 ghost use Rattle.service.specs.Stop.{Continues, Goes};
 ghost use Rattle.service.specs.Processor.{broken_in, HasProcessed, IsFinished};
-ghost use Rattle.astream_top.specs.Run.{HasTaken, StopsIn, StopsByEnd, IsAt, ended_by, RunEnds, PullsOnce, IsEmptied};
+ghost use Rattle.astream_top.specs.Run.{HasTaken, TakesFront, StopsIn, StopsByEnd, IsAt, ended_by, RunEnds, PullsOnce, IsEmptied};
 
 use as_base::NoMemory;
-use as_lineform::{Lines, Step};
+use as_lineform::Lines;
 use as_outside::Desk;
 use service::{Processor, QueryEngine, Stop};
 use std::alloc::Global;
@@ -37,21 +37,50 @@ pub fn start<E: QueryEngine + Drop>(alloc: Global, engine: E) -> Result<Run<E>, 
     })
 }
 
-// Takes a byte, and processes the line that it ends, if it ends one.
-fn take_byte<E: QueryEngine, D: Desk>(run: &mut Run<E>, desk: &mut D, byte: u8) -> Result<(), Stop>
-    requires { E.count run.old.processor.engine < 2 ^ 62 }
-    ensures calls { (c : Config) (bytes : List ℕ) (calls : List Entry) → HasTaken E.QueryEngine c run.old bytes calls →
-        Continues (D.seen desk.old) (D.seen desk.new) calls (Goes result
-        (HasTaken E.QueryEngine c run.new (bytes ++ byte ∷ [])) (StopsIn c run.new.processor (lines (bytes ++ byte ∷ [])))) }
+// Takes a line, or a part of one, from the front of the bytes, processes the line, and says how many bytes that was.
+fn take_line<E: QueryEngine, D: Desk>(
+    run: &mut Run<E>,
+    desk: &mut D,
+    bytes: &[u8],
+) -> Result<usize, Stop>
+    requires some { 0 < length bytes.now }
+    requires few { E.count run.old.processor.engine < 2 ^ 62 }
+    ensures calls { TakesFront E.QueryEngine run.old run.new (D.seen desk.old) (D.seen desk.new) bytes.now result }
+    ensures within { IfOk result (λ used. (0 < used) × (used ≤ length bytes.now)) }
     ensures count { OnOk result (E.count run.new.processor.engine ≤ E.count run.old.processor.engine + 1) }
 {
-    match run.cutter.feed(byte)? {
-        Step::Line(item) => run.processor.process(desk, item),
-        Step::More => Ok(()),
+    let (used, item) = run.cutter.take(bytes)?;
+    match item {
+        Some(item) => {
+            run.processor.process(desk, item)?;
+            Ok(used)
+        }
+        None => Ok(used),
     }
 }
 
-// Takes bytes, one after another.
+// The same, without copying where the line of a record stands whole at the front.
+fn take_front<E: QueryEngine, D: Desk>(
+    run: &mut Run<E>,
+    desk: &mut D,
+    bytes: &[u8],
+) -> Result<usize, Stop>
+    requires some { 0 < length bytes.now }
+    requires few { E.count run.old.processor.engine < 2 ^ 62 }
+    ensures calls { TakesFront E.QueryEngine run.old run.new (D.seen desk.old) (D.seen desk.new) bytes.now result }
+    ensures within { IfOk result (λ used. (0 < used) × (used ≤ length bytes.now)) }
+    ensures count { OnOk result (E.count run.new.processor.engine ≤ E.count run.old.processor.engine + 1) }
+{
+    match run.cutter.take_record(bytes) {
+        Some((used, given)) => {
+            run.processor.process_record(desk, &given)?;
+            Ok(used)
+        }
+        None => take_line(run, desk, bytes),
+    }
+}
+
+// Takes bytes, line after line.
 fn take_bytes<E: QueryEngine, D: Desk>(
     run: &mut Run<E>,
     desk: &mut D,
@@ -63,8 +92,10 @@ fn take_bytes<E: QueryEngine, D: Desk>(
         (HasTaken E.QueryEngine c run.new (before ++ bytes.now)) (StopsIn c run.new.processor (lines (before ++ bytes.now)))) }
     ensures count { OnOk result (E.count run.new.processor.engine ≤ E.count run.old.processor.engine + length bytes.now) }
 {
-    for byte in bytes {
-        take_byte(run, desk, *byte)?;
+    let mut start = 0;
+    'lines: while start < bytes.len() {
+        let used = take_front(run, desk, &bytes[start..])?;
+        start += used;
     }
     Ok(())
 }

@@ -1,9 +1,10 @@
 -- What each message does to what a store stands for, and what it prints.
-use Rattle.std.proofs.Common.{◌≡◌, ℕ, ◌+◌, ◌^◌, ◌≤◌, ◌<◌, nat_lt, eqb, min, Bool, true, false, cond, List, [], ◌∷◌, ◌++◌, map, length, get_or, refl, sym, ap, ap₂, subst, ◌∙◌, arith}
+use Rattle.std.proofs.Common.{◌≡◌, ℕ, ◌+◌, ◌^◌, ◌≤◌, ◌<◌, nat_lt, eqb, min, Bool, true, false, cond, Result, Ok, Err, OnOk, List, [], ◌∷◌, ◌++◌, map, length, get_or, refl, sym, ap, ap₂, subst, ◌∙◌, arith}
 use Rattle.std.specs.List.{filter, list_any, list_all, AllByRecursion}
 use Rattle.std.proofs.lemmas.Bool.{and_from, lt-ltb}
 use Rattle.std.proofs.lemmas.List.{length_push, length-map, map-append}
 use Rattle.std.proofs.lemmas.List.Elements.{filter-append}
+use Rattle.as_base.specs.declared.item.Given.{Given}
 use Rattle.as_base.specs.declared.item.Record.{Record}
 use Rattle.as_base.specs.declared.message.Change.TheVariants.{Opened, Closed}
 use Rattle.as_base.specs.declared.message.Msg.TheVariants as msg
@@ -42,6 +43,15 @@ record-step old new v r is f stands same kept = (
   },
   GrowsBy-none v (msg.Rec r) is f (λ n. refl),
 )
+
+-- the same of a record as it was given, where there was memory to keep it
+pub kept-step : {X : Type 0} (old new : Store) (g : Given) (result : Result (Unit {0}) X) (v : View) (r : Record) → r.given ≡ g → IsView v → RecordFollows v r → StandsFor old v
+    → new.queries.known.items ≡ old.queries.known.items
+    → OnOk result ((s : StreamId) → waiting new.backlog s ≡ waiting old.backlog s ++ kept_of old.queries.known.items g s)
+    → OnOk result (StandsFor new (after v (msg.Rec r)) × GrowsBy v (after v (msg.Rec r)) [])
+kept-step old new g (Ok tt) v r same is f stands queries kept =
+    record-step old new v r is f stands queries (λ s. kept s ∙ ap (λ x. waiting old.backlog s ++ kept_of old.queries.known.items x s) (sym same))
+kept-step old new g (Err e) v r same is f stands queries kept = tt
 
 all_below : (n : ℕ) (ks : List Known) → AllByRecursion (λ (k : Known). k.n < n) ks → list_all (λ (k : Known). nat_lt k.n n) ks ≡ true
 all_below n [] h = refl

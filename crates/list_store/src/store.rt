@@ -4,6 +4,7 @@ ghost use Rattle.as_base.specs.Pieces.{ArePieces};
 ghost use Rattle.views.specs.View.{View};
 ghost use Rattle.views.specs.Message.{after, Follows};
 ghost use Rattle.views.specs.IsView.{IsView, first_view};
+ghost use Rattle.as_base.specs.declared.item.Record.{Record};
 ghost use Rattle.as_base.specs.declared.stream.StreamId.{StreamId};
 ghost use Rattle.list_store.specs.Known.{awaits};
 ghost use Rattle.list_store.specs.Backlog.{waiting, kept_of};
@@ -48,13 +49,23 @@ impl Store {
         }
     }
 
-    // Takes a record, and keeps it where some query wants it.
-    fn take_record(&mut self, accepted: &Record) -> Result<Pieces, NoMemory>
+    /// Takes a record, and keeps it where some query wants it; it makes nothing due. The one refusal is `NoMemory`, after
+    /// which nothing has changed.
+    #[inline(always)]
+    pub fn take_record(&mut self, given: &Given) -> Result<(), NoMemory>
+        ensures { (v : View) (r : Record) → r.given ≡ given.now → IsView v → Follows v (Msg.Rec r) → StandsFor self.old v →
+            OnOk result (StandsFor self.new (after v (Msg.Rec r)) × GrowsBy v (after v (Msg.Rec r)) []) }
+    {
+        keep(&self.queries, &mut self.backlog, given)
+    }
+
+    // Takes a record as a message.
+    fn record(&mut self, accepted: &Record) -> Result<Pieces, NoMemory>
         ensures stands { (v : View) → IsView v → Follows v (Msg.Rec accepted.now) → StandsFor self.old v → IfOk result (λ pieces.
             StandsFor self.new (after v (Msg.Rec accepted.now)) × GrowsBy v (after v (Msg.Rec accepted.now)) pieces) }
         ensures none { IfOk result (λ pieces. pieces ≡ []) }
     {
-        keep(&self.queries, &mut self.backlog, &accepted.given)?;
+        self.take_record(&accepted.given)?;
         Ok(Pieces::from_vec(Vec::new(self.alloc)))
     }
 
@@ -113,7 +124,7 @@ impl Store {
         ensures sparing { IfOk result (IsSparing message.now self.new) }
     {
         match message {
-            Msg::Rec(record) => self.take_record(record),
+            Msg::Rec(accepted) => self.record(accepted),
             Msg::Advance { wm } => self.advance(wm),
             Msg::Change(change) => self.change(change),
         }

@@ -1,5 +1,5 @@
 -- What a processor stands for once an item's calls, or those of the end, were made.
-use Rattle.std.proofs.Common.{◌≡◌, ◌<◌, ◌+◌, ℕ, true, false, cond, length, length-append, take, Option, Some, None, Result, Ok, Err, List, [], ◌∷◌, ◌++◌, refl, sym, ap, subst, ◌∙◌, append_assoc, append-nil, arith}
+use Rattle.std.proofs.Common.{◌≡◌, ◌<◌, ◌+◌, ℕ, nat_lt, not, Bool, true, false, cond, length, length-append, take, Option, Some, None, Result, Ok, Err, List, [], ◌∷◌, ◌++◌, refl, sym, ap, subst, ◌∙◌, append_assoc, append-nil, arith}
 use Rattle.std.specs.List.{flat_map, AllByRecursion}
 use Rattle.std.specs.Option.{option_to_list}
 use Rattle.std.proofs.lemmas.List.Concat.{flat_map-append}
@@ -8,7 +8,10 @@ use Rattle.std.proofs.lemmas.List.{take-append-le}
 use Rattle.as_words.specs.Prefix.{IsPrefix}
 use Rattle.as_base.specs.declared.config.Config.{Config}
 use Rattle.as_base.specs.declared.item.Item.{Item}
-use Rattle.as_base.specs.declared.item.Item.TheVariants.{End}
+use Rattle.as_base.specs.declared.item.Item.TheVariants.{Rec, End}
+use Rattle.as_base.specs.declared.item.Given.{Given}
+use Rattle.as_base.specs.declared.answer.Word.TheVariants as word
+use Rattle.as_base.specs.Config.{is_configured}
 use Rattle.as_base.specs.declared.stream.StreamId.{StreamId}
 use Rattle.as_base.specs.declared.answer.Answer.{Answer}
 use Rattle.as_base.specs.declared.answer.Fed.{Fed}
@@ -16,12 +19,12 @@ use Rattle.as_base.specs.declared.answer.Piece.{Piece}
 use Rattle.as_base.specs.Times.{times}
 use Rattle.as_outside.specs.declared.entry.Entry.{Entry}
 use Rattle.as_lineform.specs.Answer.{answer_text}
-use Rattle.session.specs.Answers.{answers, answer_to}
-use Rattle.session.specs.Acceptance.{is_open}
+use Rattle.session.specs.Answers.{answers, answer_to, answered, or_else}
+use Rattle.session.specs.Acceptance.{is_open, has_ended, front}
 use Rattle.session.specs.Book.{numbers}
 use Rattle.session.specs.View.{text_of}
 use Rattle.session.specs.Shut.{end_of, shut}
-use Rattle.session.specs.Outcome.{created, Adds, IsFed}
+use Rattle.session.specs.Outcome.{created, Adds, IsFed, only_told}
 use Rattle.session.proofs.WalkLaws.{answers-push}
 use Rattle.session.proofs.ShutLaws.{answer_to-end, answers-shut}
 use Rattle.service.specs.declared.engine.QueryEngine as engine
@@ -50,6 +53,25 @@ answers_text-push c h x =
 -- what was served is what is due
 due_from : (c : Config) (h : List Item) (spoken broken : List ℕ) (all : List Entry) → spoken ≡ answers_text c h → HasServed (numbers c h) (text_of c h) spoken broken all → IsDue c h all
 due_from c h spoken broken all is t = record { answers = t.answers ∙ is; no_say_failed = t.no_say_failed; outputs = t.outputs }
+
+-- a record creates no query
+created-record : (c : Config) (h : List Item) (g : Given) → created (answer_to c h (Rec g)) ≡ []
+created-record c h g = go (is_configured c g.stream) (has_ended c h g.stream) (nat_lt g.time (front c h g.stream))
+  where
+    go : (configured ended behind : Bool)
+        → created (answered h (or_else (cond (not configured) (Some word.Stranger) (cond ended (Some word.Ended) (cond behind (Some word.Late) None))) None)) ≡ []
+    go false ended behind = refl
+    go true true behind = refl
+    go true false true = refl
+    go true false false = refl
+
+-- and makes nothing due
+pub record_served : (c : Config) (h : List Item) (g : Given) (answer : Option Answer) (broken : List ℕ) (all : List Entry) → IsFed c h (Rec g) (only_told answer)
+    → HasServed (numbers c h) (text_of c h) (answers_text c h) broken all → HasServed (numbers c (h ++ Rec g ∷ [])) (text_of c (h ++ Rec g ∷ [])) (answers_text c h) broken all
+record_served c h g answer broken all fed t =
+    served-same (numbers c h) (numbers c (h ++ Rec g ∷ [])) (text_of c h) (text_of c (h ++ Rec g ∷ [])) (answers_text c h) broken all
+    (sym (fed.adds.book ∙ ap (λ l. numbers c h ++ l) (ap created fed.answer ∙ created-record c h g) ∙ append-nil (numbers c h)))
+    (λ n. sym (fed.adds.text n ∙ append-nil (text_of c h n))) t
 
 -- a processor with another engine, or with other outputs broken
 abbrev pub with_engine : {E : Type 0} → Processor E → E → Processor E

@@ -1,11 +1,11 @@
 ghost use Rattle.std.specs.Prelude.{◌≡◌, ◌<◌, ◌+◌, ◌++◌, ◌^◌, [], ◌∷◌, ℕ, List, length, IfOk, OnOk};
 ghost use Rattle.as_base.specs.declared.config.Config.{Config};
 ghost use Rattle.as_base.specs.declared.item.Item.{Item};
-ghost use Rattle.as_base.specs.Range.{InRange};
+ghost use Rattle.as_base.specs.Range.{InRange, IsTime};
 ghost use Rattle.session.specs.Acceptance.{is_open};
-ghost use Rattle.session.specs.Outcome.{IsFed, ArePieces};
+ghost use Rattle.session.specs.Outcome.{IsFed, ArePieces, only_told};
 
-use as_base::{Fed, Item, NoMemory, StreamId};
+use as_base::{Answer, Fed, Given, Item, NoMemory, StreamId};
 
 /// What decides items: the answer to each, and the pieces of text that it makes due on the outputs of queries.
 ///
@@ -33,6 +33,16 @@ pub trait QueryEngine {
         ensures stands { (h : List Item) → stands self.old h → IfOk result (λ fed.
             stands self.new (h ++ item ∷ []) × IsFed (config self.old) h item fed) }
         ensures order { IfOk result (λ fed. ArePieces fed.pieces) }
+        ensures count { OnOk result (count self.new ≡ count self.old + 1) }
+        ensures config { config self.new ≡ config self.old };
+
+    /// Takes a record whose time is in range, where fewer than 2^62 items came before it, as `feed` does. It makes nothing
+    /// due: what it tells is its answer alone, if it has one.
+    fn feed_record(&mut self, given: &Given) -> Result<Option<Answer>, NoMemory>
+        requires range { IsTime given.now.time }
+        requires few { count self.old < 2 ^ 62 }
+        ensures stands { (h : List Item) → stands self.old h → IfOk result (λ answer.
+            stands self.new (h ++ Item.Rec given.now ∷ []) × IsFed (config self.old) h (Item.Rec given.now) (only_told answer)) }
         ensures count { OnOk result (count self.new ≡ count self.old + 1) }
         ensures config { config self.new ≡ config self.old };
 

@@ -2,19 +2,20 @@ ghost use Rattle.std.specs.Prelude.{◌≡◌, ◌<◌, ◌≤◌, ◌+◌, ◌+
 ghost use Rattle.std.specs.List.{flat_map};
 ghost use Rattle.as_base.specs.declared.config.Config.{Config};
 ghost use Rattle.as_base.specs.declared.item.Item.{Item};
-ghost use Rattle.as_base.specs.Range.{InRange};
+ghost use Rattle.as_base.specs.Range.{InRange, IsTime};
 ghost use Rattle.as_outside.specs.declared.entry.Entry.{Entry};
-ghost use Rattle.service.specs.AnswerText.{broken_text, done_text, last_text};
+ghost use Rattle.service.specs.AnswerText.{answered_text, broken_text, done_text, last_text};
 ghost use Rattle.service.specs.Broken.{HasRoom};
 ghost use Rattle.service.specs.Processor.{broken_in, IsLeftBefore, IsLeftAmongEnds, HasTaken, HasProcessed, HasPrepared, IsFinished};
 ghost use Rattle.service.specs.Stop.{Continues, Goes, IsStopped, IsStoppedAtEnd};
+ghost use Rattle.session.specs.Outcome.{only_told};
 ghost use Rattle.session.specs.Shut.{end_of, shut};
 
 use crate::broken::Broken;
 use crate::delivery::{deliver, put_all, say};
 use crate::engine::QueryEngine;
 use crate::stop::Stop;
-use as_base::{Fed, Item, NoMemory, StreamId};
+use as_base::{Answer, Fed, Given, Item, NoMemory, StreamId};
 use as_lineform::answer_text;
 use as_outside::Shelf;
 use as_words::append_spaced_decimal;
@@ -61,10 +62,7 @@ impl<E: QueryEngine> Processor<E> {
         ensures lines { OnErr result (self.new.lines ≡ self.old.lines) }
     {
         let fed = self.engine.feed(item)?;
-        self.text.clear();
-        if let Some(answer) = fed.answer {
-            answer_text(&answer, &mut self.text)?;
-        }
+        write_answer(fed.answer, &mut self.text)?;
         self.broken.reserve(fed.pieces.as_slice().len() + 1)?;
         self.lines = self.engine.items();
         Ok(fed)
@@ -84,6 +82,40 @@ impl<E: QueryEngine> Processor<E> {
     {
         let fed = self.prepare(item)?;
         deliver(shelf, &mut self.broken, &fed);
+        say(shelf, &self.text)
+    }
+
+    // Takes a record, and makes the text of its answer, before any call.
+    #[inline(always)]
+    fn prepare_record(&mut self, given: &Given) -> Result<Option<Answer>, NoMemory>
+        requires range { IsTime given.now.time }
+        requires few { E.count self.old.engine < 2 ^ 62 }
+        ensures prepared { (h : List Item) → E.stands self.old.engine h → IfOk result (λ answer.
+            HasPrepared E.QueryEngine (E.config self.old.engine) self.new h (Item.Rec given.now) (only_told answer)) }
+        ensures config { E.config self.new.engine ≡ E.config self.old.engine }
+        ensures count { OnOk result (E.count self.new.engine ≡ E.count self.old.engine + 1) }
+        ensures broken { broken_in self.new ≡ broken_in self.old }
+        ensures lines { OnErr result (self.new.lines ≡ self.old.lines) }
+    {
+        let answer = self.engine.feed_record(given)?;
+        write_answer(answer, &mut self.text)?;
+        self.lines = self.engine.items();
+        Ok(answer)
+    }
+
+    /// Takes a record, and says its answer, if it has one: it makes nothing due. It stops at want of memory, before the
+    /// call, and where the say fails.
+    #[inline(always)]
+    pub fn process_record<S: Shelf>(&mut self, shelf: &mut S, given: &Given) -> Result<(), Stop>
+        requires range { IsTime given.now.time }
+        requires few { E.count self.old.engine < 2 ^ 62 }
+        ensures calls { (c : Config) (h : List Item) (calls : List Entry) → HasProcessed E.QueryEngine c self.old h calls →
+            Continues (S.seen shelf.old) (S.seen shelf.new) calls (Goes result
+            (HasProcessed E.QueryEngine c self.new (h ++ Item.Rec given.now ∷ []))
+            (λ s. IsStopped c s self.new.lines (broken_in self.new) (h ++ Item.Rec given.now ∷ []))) }
+        ensures count { OnOk result (E.count self.new.engine ≡ E.count self.old.engine + 1) }
+    {
+        self.prepare_record(given)?;
         say(shelf, &self.text)
     }
 
@@ -133,6 +165,18 @@ impl<E: QueryEngine> Processor<E> {
         self.text.clear();
         append_last(self.lines, &self.broken, &mut self.text)?;
         say(shelf, &self.text)
+    }
+}
+
+// Writes the text of an answer, if there is one, in the place of the last.
+#[inline(always)]
+fn write_answer(answer: Option<Answer>, out: &mut Vec<u8>) -> Result<(), NoMemory>
+    ensures { OnOk result (out.new.items ≡ answered_text answer) }
+{
+    out.clear();
+    match answer {
+        Some(answer) => answer_text(&answer, out),
+        None => Ok(()),
     }
 }
 

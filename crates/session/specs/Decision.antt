@@ -1,6 +1,8 @@
 -- What a session decides of an item.
-use Rattle.std.specs.Prelude.{◌≡◌, Some, None, List}
+use Rattle.std.specs.Prelude.{ℕ, ◌≡◌, Some, None, Result, Ok, Err, List}
 use Rattle.as_base.specs.declared.config.Config.{Config}
+use Rattle.as_base.specs.declared.answer.Answer.{Answer}
+use Rattle.as_base.specs.declared.item.Given.{Given}
 use Rattle.as_base.specs.declared.item.Item.{Item}
 use Rattle.as_base.specs.declared.message.Msg.TheVariants as msg
 use Rattle.session.specs.declared.decision.Decision.{Decision}
@@ -14,3 +16,8 @@ abbrev pub IsDecided : Config → List Item → Item → Decision → Type 0
 IsDecided c h x (Pass m) = (message c h x ≡ Some m) × (answer_to c h x ≡ None)
 IsDecided c h x (Told a) = (message c h x ≡ None) × (answer_to c h x ≡ Some a)
 IsDecided c h x (Acted a change) = (message c h x ≡ Some (msg.Change change)) × (answer_to c h x ≡ Some a)
+
+-- What is decided of a record that is accepted as this line, or that this answer refuses.
+abbrev pub decision_on : Given → Result ℕ Answer → Decision
+decision_on g (Ok line) = Pass (msg.Rec (record { seq = line; given = g }))
+decision_on g (Err a) = Told a

@@ -35,3 +35,7 @@ pub record Adds (c : Config) (h h' : List Item) (queries : List ℕ) (pieces : L
 pub record IsFed (c : Config) (h : List Item) (x : Item) (fed : Fed) : Type 0 where
   pub answer : fed.answer ≡ answer_to c h x
   pub adds : Adds c h (h ++ x ∷ []) (created fed.answer) fed.pieces
+
+-- an answer, if there is one, and no piece
+abbrev pub only_told : Option Answer → Fed
+only_told answer = record { answer = answer; pieces = [] }

@@ -154,7 +154,7 @@ fn place_of_seat(live: &[Seat], n: u64) -> Option<usize>
 impl Session {
     ghost use Rattle.session.specs.Acceptance.{has_ended};
     ghost use Rattle.session.specs.Book.{stream_refusal};
-    ghost use Rattle.session.specs.Decision.{IsDecided};
+    ghost use Rattle.session.specs.Decision.{IsDecided, decision_on};
     ghost use Rattle.session.specs.Planned.{plan_for, is_select};
     ghost use Rattle.session.specs.Session.{clock_of, StandsFor};
 
@@ -197,6 +197,30 @@ impl Session {
         first_refusal(configured, self.ended(stream), behind, last)
     }
 
+    /// Takes a record: the number of its line, or the answer that refuses it. It takes no memory.
+    #[inline(always)]
+    pub fn accept_record(&mut self, given: &Given) -> Result<u64, Answer>
+        requires range { IsTime given.now.time }
+        requires few { self.old.items < 2 ^ 62 }
+        ensures stands { (c : Config) (h : List Item) → StandsFor c self.old h →
+            StandsFor c self.new (h ++ Item.Rec given.now ∷ []) × IsDecided c h (Item.Rec given.now) (decision_on given.now result) }
+        ensures count { self.new.items ≡ self.old.items + 1 }
+    {
+        let clock = self.clock_of(given.stream);
+        let refusal = self.stream_refusal(given.stream, given.time < clock.front, Word::Late);
+        self.items += 1;
+        let line = self.items;
+        if let Some(word) = refusal {
+            return Err(Answer { line, word });
+        }
+        self.clocks[place_of(given.stream)] = Clock {
+            front: given.time,
+            ..clock
+        };
+        self.changelog_time = changelog_after(self.changelog_time, given.time);
+        Ok(line)
+    }
+
     // Takes a record.
     fn take_record(&mut self, given: &Given) -> Decision
         requires range { IsTime given.now.time }
@@ -205,22 +229,10 @@ impl Session {
             StandsFor c self.new (h ++ Item.Rec given.now ∷ []) × IsDecided c h (Item.Rec given.now) result }
         ensures count { self.new.items ≡ self.old.items + 1 }
     {
-        let clock = self.clock_of(given.stream);
-        let refusal = self.stream_refusal(given.stream, given.time < clock.front, Word::Late);
-        self.items += 1;
-        let line = self.items;
-        if let Some(word) = refusal {
-            return Decision::Told(Answer { line, word });
+        match self.accept_record(given) {
+            Ok(seq) => Decision::Pass(Msg::Rec(Record { seq, given: *given })),
+            Err(answer) => Decision::Told(answer),
         }
-        self.clocks[place_of(given.stream)] = Clock {
-            front: given.time,
-            ..clock
-        };
-        self.changelog_time = changelog_after(self.changelog_time, given.time);
-        Decision::Pass(Msg::Rec(Record {
-            seq: line,
-            given: *given,
-        }))
     }
 
     // Takes a watermark of a stream.

@@ -1,12 +1,10 @@
-use Rattle.std.proofs.Common.{refl, sym, subst, ◌∙◌}
-use Rattle.as_base.specs.declared.message.Msg.TheVariants as msg
-use Rattle.views.specs.Message.{after}
-use Rattle.list_store.specs.Store.{GrowsBy}
-use Rattle.list_store.proofs.StepLaws.{record-step}
+use Rattle.std.proofs.Common.{refl}
+use Rattle.list_store.specs.declared.store.Store.{Store}
+use Rattle.list_store.proofs.StepLaws.{kept-step}
 use Rattle.list_store.proofs.store.Store.take_record.Goals as goal
 
-pub returns-clause-stands : goal.returns-clause-stands
-returns-clause-stands c = λ v is f stands.
-    let r = c.args.accepted.now in
-    let p = record-step c.args.self.now _ v r is f stands refl c.in_ok-keep.ensures in
-    (p.0, subst (GrowsBy v (after v (msg.Rec r))) (sym (c.from_vec.ensures ∙ c.new.ensures.items)) p.1)
+pub returns : goal.returns
+returns c = λ v r same is f stands.
+    let old = c.args.self.now in
+    let new : Store = record { alloc = old.alloc; queries = old.queries; backlog = c.keep.new.backlog } in
+    kept-step old new c.args.given.now c.keep.result v r same is f stands refl c.keep.ensures

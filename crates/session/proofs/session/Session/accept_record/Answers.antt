@@ -4,7 +4,7 @@ use Rattle.as_base.specs.declared.item.Item.TheVariants.{Rec}
 use Rattle.session.specs.declared.session.Clock.{Clock}
 use Rattle.session.specs.Book.{stream_refusal, refusal}
 use Rattle.session.proofs.StepLaws.{Stands, stands-in, stands-out, refused-record, record-step}
-use Rattle.session.proofs.session.Session.take_record.Goals as goal
+use Rattle.session.proofs.session.Session.accept_record.Goals as goal
 
 pub returns-in-Some-clause-stands : goal.returns-in-Some-clause-stands
 returns-in-Some-clause-stands c = λ config h s.
