@@ -4,6 +4,7 @@ pub mod Range
 pub mod Windows
 pub mod Config
 pub mod Query
+pub mod Canonical
 pub mod Times
 pub mod Pieces
 pub mod Worked

@@ -1,5 +1,5 @@
--- Which records are within bounds.
-use Rattle.std.specs.Prelude.{ℕ, ℤ, pos, List, get_or, int_le, Bool, ◌&&◌}
+-- Which records are within bounds, and the bounds that have every record within them.
+use Rattle.std.specs.Prelude.{ℕ, ◌^◌, ◌-◌, ℤ, pos, negsuc, List, [], ◌∷◌, get_or, int_le, Bool, ◌&&◌}
 use Rattle.as_base.specs.declared.item.Given.{Given}
 use Rattle.as_base.specs.declared.query.Bounds.{Bounds}
 
@@ -22,3 +22,18 @@ holds_back b v = is_within (at b.lo 3) (at v 2) (at b.hi 3) && is_within (at b.l
 -- the key and each value are in their intervals
 abbrev pub holds_all : Bounds → Given → Bool
 holds_all b g = is_within (at b.lo 0) g.key (at b.hi 0) && holds_front b g.v && holds_back b g.v
+
+-- the least number that a field may have: -2^63
+abbrev pub lowest : ℤ
+lowest = negsuc (2 ^ 63 - 1)
+
+-- the greatest number that a field may have: 2^63 - 1
+abbrev pub highest : ℤ
+highest = pos (2 ^ 63 - 1)
+
+-- each field may have each number
+abbrev pub unlimited : Bounds
+unlimited = record {
+  lo = lowest ∷ lowest ∷ lowest ∷ lowest ∷ lowest ∷ [];
+  hi = highest ∷ highest ∷ highest ∷ highest ∷ highest ∷ [];
+}

@@ -1,10 +1,15 @@
 -- The windows of a query: their limits, their edges, and which of them hold a time.
-use Rattle.std.specs.Prelude.{ℕ, ◌≡◌, ◌⊎◌, ◌+◌, ◌-◌, ◌*◌, ◌/◌, max, nat_le, nat_lt, ◌&&◌, if◌then◌else◌, Bool}
+use Rattle.std.specs.Prelude.{ℕ, ◌≡◌, ◌⊎◌, ◌+◌, ◌-◌, ◌*◌, ◌/◌, max, nat_le, nat_lt, ◌&&◌, if◌then◌else◌, Bool, List}
+use Rattle.std.specs.List.{range_with_len}
 use Rattle.as_base.specs.declared.windows.WinSpec.{WinSpec}
 
 -- The windows move on, leave no gap, are at most 2^32 ticks long, and at most 64 of them hold one time.
 abbrev pub fits : WinSpec → Bool
 fits w = nat_le 1 w.slide && nat_le w.slide w.size && nat_le w.size 4294967296 && nat_le w.size (64 * w.slide)
+
+-- windows of one tick each: those of a selection
+abbrev pub one_tick : WinSpec
+one_tick = record { size = 1; slide = 1 }
 
 -- where window k begins
 abbrev pub start_of : WinSpec → ℕ → ℕ
@@ -25,6 +30,10 @@ first_window w t = if nat_lt t w.size then 0 else (t - w.size) / w.slide + 1
 -- the last window that holds the time
 abbrev pub last_window : WinSpec → ℕ → ℕ
 last_window w t = t / w.slide
+
+-- the windows that hold the time, by rising number
+abbrev pub windows_at : WinSpec → ℕ → List ℕ
+windows_at w t = range_with_len (first_window w t) (last_window w t - first_window w t + 1)
 
 -- the time is a start or an end of a window
 abbrev pub IsEdge : WinSpec → ℕ → Type 0

@@ -134,12 +134,23 @@ fn short_number(bytes: &[u8]) -> Option<(u64, usize)>
     Some((number_of(last_digits(word, count)), count))
 }
 
+// How many of the first eight bytes are digits at the front; none where there are fewer bytes.
+#[inline(always)]
+fn digits_of_eight(bytes: &[u8]) -> usize
+    ensures { result ≤ length bytes.now }
+{
+    match bytes.first_chunk::<8>() {
+        Some(eight) => count_digits(u64::from_le_bytes(*eight)),
+        None => 0,
+    }
+}
+
 // How many digits stand at the front. What is read by it is tested again.
 #[inline(never)]
 fn digits_at_front(bytes: &[u8]) -> usize
     ensures { result ≤ length bytes.now }
 {
-    let mut count = 0;
+    let mut count = digits_of_eight(bytes);
     'digits: while count < bytes.len() && bytes[count].is_ascii_digit() {
         count += 1;
     }

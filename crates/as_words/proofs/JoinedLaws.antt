@@ -85,13 +85,13 @@ spaced-append (word ∷ words) more = ap (λ xs. 32 ∷ word ++ xs) (spaced-appe
 pub joined-append : (word : List ℕ) (words more : List (List ℕ)) → joined ((word ∷ words) ++ more) ≡ joined (word ∷ words) ++ spaced more
 joined-append word words more = ap (λ xs. word ++ xs) (spaced-append words more) ∙ sym (append_assoc word (spaced words) (spaced more))
 
-digit_bytes : (ds : List ℕ) → AllDigits 10 ds → list_all is_word_byte ds ≡ true
+pub digit_bytes : (ds : List ℕ) → AllDigits 10 ds → list_all is_word_byte ds ≡ true
 digit_bytes [] h = refl
 digit_bytes (d ∷ ds) h =
     let first = digit_at (d ∷ ds) 0 h (omega arith) in
     and_from _ _ (and_from _ _ (le-leb 33 d (omega (arith, first.0))) (le-leb d 126 (omega (arith, first.1)))) (digit_bytes ds h.1)
 
-short_word : (word : List ℕ) → 0 < length word → length word ≤ 40 → list_all is_word_byte word ≡ true → IsShort word
+pub short_word : (word : List ℕ) → 0 < length word → length word ≤ 40 → list_all is_word_byte word ≡ true → IsShort word
 short_word [] some few h = absurd (omega (arith, some))
 short_word (b ∷ word) some few h = (and_from _ _ (ap not (ne_eqb (length (b ∷ word)) 0 (λ e. omega (arith, e)))) h, few)
 

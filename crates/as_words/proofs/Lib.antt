@@ -3,3 +3,4 @@ pub mod PartLaws
 pub mod WordLaws
 pub mod AppendsLaws
 pub mod JoinedLaws
+pub mod WideLaws

@@ -1,5 +1,5 @@
 -- Numbers and the words that spell them.
-use Rattle.std.proofs.Common.{◌≡◌, ℕ, zero, suc, ◌+◌, ◌*◌, ◌^◌, ◌<◌, ◌≤◌, ◌&&◌, Bool, true, false, Option, Some, None, List, [], ◌∷◌, length, take, get_or, refl, sym, ap, ap₂, true≢false, ◌∙◌, subst, arith, bytes_eq, nat_lt, decimal, ℤ, pos, negsuc, neg_ℤ, SomeIff, eq-zero-or-pos, slice_get, inl, inr, ◌≢◌, slice_index, ◌==◌, drop, eqb}
+use Rattle.std.proofs.Common.{◌≡◌, ℕ, zero, suc, ◌+◌, ◌*◌, ◌^◌, ◌<◌, ◌≤◌, ◌&&◌, if◌then◌else◌, Bool, true, false, Option, Some, None, List, [], ◌∷◌, length, take, get_or, refl, sym, ap, ap₂, true≢false, ◌∙◌, subst, arith, bytes_eq, nat_lt, decimal, ℤ, pos, negsuc, neg_ℤ, SomeIff, eq-zero-or-pos, slice_get, inl, inr, ◌≢◌, slice_index, ◌==◌, drop, eqb}
 use Rattle.std.specs.Char.{digit_value}
 use Rattle.std.specs.Int.{IsInRange}
 use Rattle.std.specs.Cmp.Lexicographic.{pointwise}
@@ -102,38 +102,48 @@ pub mag-signed : (z : ℤ) → IsSigned z → mag z < 2 ^ 63
 mag-signed (pos n) h = ltb-true n (2 ^ 63) (and_parts true (nat_lt n (2 ^ 63)) h).1
 mag-signed (negsuc n) h = ltb-true n (2 ^ 63) (and_parts (nat_lt n (2 ^ 63)) true h).0
 
-IsSigned-mag : (z : ℤ) → mag z < 2 ^ 63 → IsSigned z
+pub IsSigned-mag : (z : ℤ) → mag z < 2 ^ 63 → IsSigned z
 IsSigned-mag (pos n) h = and_from true (nat_lt n (2 ^ 63)) refl (lt-ltb n (2 ^ 63) h)
 IsSigned-mag (negsuc n) h = and_from (nat_lt n (2 ^ 63)) true (lt-ltb n (2 ^ 63) h) refl
 
--- the test of `integer`, at the value that the word's digits give
-abbrev is_spelled : ℤ → List ℕ → Bool
-is_spelled z word = bytes_eq (signed_decimal z) word && is_signed z
+-- The number that the word spells, if it passes the test: `integer` and `wide_integer` are this with their ranges.
+abbrev pub spelled : (ℤ → Bool) → List ℕ → Option ℤ
+spelled in_range word = let z = signed_digits_value 10 word in if bytes_eq (signed_decimal z) word && in_range z then Some z else None
 
-pub integer-None : (word : List ℕ) → ((z : ℤ) → mag z < 2 ^ 63 → word ≡ signed_decimal z → ⊥) → integer word ≡ None
-integer-None word none =
+pub spelled-None : (in_range : ℤ → Bool) (word : List ℕ) → ((z : ℤ) → in_range z ≡ true → word ≡ signed_decimal z → ⊥) → spelled in_range word ≡ None
+spelled-None in_range word none =
     let z : ℤ = signed_digits_value 10 word in
-    cond_both (is_spelled z word) (Some z) None (λ o. o ≡ None)
-    (λ h. let parts = and_parts (bytes_eq (signed_decimal z) word) (is_signed z) h in
-    absurd (none z (mag-signed z parts.1) (sym ((bytes_eq-Decides (signed_decimal z) word).0 parts.0))))
+    cond_both (bytes_eq (signed_decimal z) word && in_range z) (Some z) None (λ o. o ≡ None)
+    (λ h. let parts = and_parts (bytes_eq (signed_decimal z) word) (in_range z) h in
+    absurd (none z parts.1 (sym ((bytes_eq-Decides (signed_decimal z) word).0 parts.0))))
     (λ h. refl)
 
 -- a number that was read is in range, and is what its word spells
-pub spells-integer : (word : List ℕ) (z : ℤ) → integer word ≡ Some z → IsSigned z × (word ≡ signed_decimal z)
-spells-integer word z =
+pub spells : (in_range : ℤ → Bool) (word : List ℕ) (z : ℤ) → spelled in_range word ≡ Some z → (in_range z ≡ true) × (word ≡ signed_decimal z)
+spells in_range word z =
     let y : ℤ = signed_digits_value 10 word in
-    let Told : ℤ → Type 0 = λ x. IsSigned x × (word ≡ signed_decimal x) in
-    cond_both (is_spelled y word) (Some y) None (λ o. o ≡ Some z → Told z)
-    (λ h e. let parts = and_parts (bytes_eq (signed_decimal y) word) (is_signed y) h in
+    let Told : ℤ → Type 0 = λ x. (in_range x ≡ true) × (word ≡ signed_decimal x) in
+    cond_both (bytes_eq (signed_decimal y) word && in_range y) (Some y) None (λ o. o ≡ Some z → Told z)
+    (λ h e. let parts = and_parts (bytes_eq (signed_decimal y) word) (in_range y) h in
     let same : y ≡ z = cc e in
     subst Told same (parts.1, sym ((bytes_eq-Decides (signed_decimal y) word).0 parts.0)))
     (λ h e. cc e)
 
+pub spelled-Some : (in_range : ℤ → Bool) (z : ℤ) (word : List ℕ) → in_range z ≡ true → signed_digits_value 10 (signed_decimal z) ≡ z → word ≡ signed_decimal z → spelled in_range word ≡ Some z
+spelled-Some in_range z word h value e =
+    let y : ℤ = signed_digits_value 10 word in
+    let v : y ≡ z = ap (signed_digits_value 10) e ∙ value in
+    let test : (bytes_eq (signed_decimal z) word && in_range z) ≡ true = and_from _ _ ((bytes_eq-Decides (signed_decimal z) word).1 (sym e)) h in
+    cond-true (bytes_eq (signed_decimal y) word && in_range y) (Some y) None (ap (λ x. bytes_eq (signed_decimal x) word && in_range x) v ∙ test) ∙ ap (λ x. Some x) v
+
+pub integer-None : (word : List ℕ) → ((z : ℤ) → mag z < 2 ^ 63 → word ≡ signed_decimal z → ⊥) → integer word ≡ None
+integer-None word none = spelled-None is_signed word (λ z h. none z (mag-signed z h))
+
+pub spells-integer : (word : List ℕ) (z : ℤ) → integer word ≡ Some z → IsSigned z × (word ≡ signed_decimal z)
+spells-integer = spells is_signed
+
 integer-Some : (z : ℤ) (word : List ℕ) → mag z < 2 ^ 63 → word ≡ signed_decimal z → integer word ≡ Some z
-integer-Some z word h e =
-    let v : signed_digits_value 10 word ≡ z = ap (signed_digits_value 10) e ∙ value-signed_decimal z h in
-    let test : is_spelled z word ≡ true = and_from _ _ ((bytes_eq-Decides (signed_decimal z) word).1 (sym e)) (IsSigned-mag z h) in
-    cond-true (is_spelled (signed_digits_value 10 word) word) (Some (signed_digits_value 10 word)) None (ap (λ y. is_spelled y word) v ∙ test) ∙ ap (λ y. Some y) v
+integer-Some z word h = spelled-Some is_signed z word (IsSigned-mag z h) (value-signed_decimal z h)
 
 -- a word without a minus in front
 no_plain : (word : List ℕ) → ((rest : List ℕ) → word ≢ 45 ∷ rest) → natural (2 ^ 64) word ≡ None → (z : ℤ) → mag z < 2 ^ 63 → word ≡ signed_decimal z → ⊥

@@ -1,7 +1,9 @@
 ghost use Rattle.std.specs.Prelude.{◌≡◌, ◌^◌, ◌+◌, ◌*◌, ◌<◌, ◌≤◌, SomeIff, pos, neg_ℤ};
 ghost use Rattle.std.specs.Char.{digit_value};
 ghost use Rattle.std.specs.Str.Parse.{AllDigits, digits_value};
-ghost use Rattle.as_words.specs.Number.{natural, integer};
+ghost use Rattle.as_words.specs.Number.{natural, integer, wide_integer};
+
+use itoa::Buffer;
 
 /// The magnitude of the least `i64`: 2^63.
 pub const LEAST: u64 = 1 << 63;
@@ -69,4 +71,13 @@ pub fn parse_integer(word: &[u8]) -> Option<i64>
         Some(digits) => negative(parse_natural(digits)?),
         None => i64::try_from(parse_natural(word)?).ok(),
     }
+}
+
+/// The number from -2^127 to 2^127 - 1 that the word spells, each in its one spelling: the one that is written as the word.
+pub fn parse_wide(word: &[u8]) -> Option<i128>
+    ensures { result ≡ wide_integer word.now }
+{
+    let text = str::from_utf8(word).ok()?;
+    let number = text.parse::<i128>().ok()?;
+    (Buffer::new().format(number).as_bytes() == word).then_some(number)
 }

@@ -72,6 +72,25 @@ fn bytes_are_words_and_numbers(rt: HostRuntime) {
     }
 }
 
+// The word is read as this wide number, or as none.
+fn reads_wide(word: &[u8], number: Option<i128>) -> bool {
+    parse_wide(word) == number
+}
+
+#[test]
+fn words_are_wide_numbers(rt: HostRuntime) {
+    assert!(rt; reads_wide(b"170141183460469231731687303715884105727", Some(i128::MAX)));
+    assert!(rt; reads_wide(b"170141183460469231731687303715884105728", None));
+    assert!(rt; reads_wide(b"-170141183460469231731687303715884105728", Some(i128::MIN)));
+    assert!(rt; reads_wide(b"-170141183460469231731687303715884105729", None));
+    assert!(rt; reads_wide(b"0", Some(0)));
+    assert!(rt; reads_wide(b"-0", None));
+    assert!(rt; reads_wide(b"01", None));
+    assert!(rt; reads_wide(b"+1", None));
+    assert!(rt; reads_wide(b"\xff", None));
+    assert!(rt; reads_wide(b"", None));
+}
+
 #[test]
 fn lines_have_words(rt: HostRuntime) -> Result<(), Fail> {
     let mut words = Words::new(b"ab  c");

@@ -1,5 +1,4 @@
 pub mod Command
-pub mod Engine
 pub mod Explanation
 pub mod Prompt
 pub mod Ends

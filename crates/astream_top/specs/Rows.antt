@@ -102,8 +102,8 @@ pub malformed_lines : answered (replicate 5000 120 ++ 10 ∷ 195 ∷ 169 ∷ cod
 unfolding digits
 malformed_lines = refl
 
--- a sum, a count and a join are not built yet
-pub later_answers : answered (codes "create count by all from a tumble 5\ncreate select from a\n") ≡ codes "1 later\n2 created 1 at 0\n"
+-- a join is not built yet
+pub later_answers : answered (codes "create join a b tumble 5\ncreate select from a\n") ≡ codes "1 later\n2 created 1 at 0\n"
 unfolding digits
 later_answers = refl
 
@@ -176,6 +176,94 @@ first_after = refl
 pub second_after : held_in_the_end 2 after_input ≡ []
 unfolding digits
 second_after = refl
+
+-- one slot and one window have two holders: the first is cut by its end, the second by its beginning
+abbrev two_holders : List ℕ
+two_holders = codes "create count by all from a tumble 100\nrec a 10 7 3 0 0 0\ndelete 1\ncreate sum v1 by all from a tumble 100\nrec a 40 7 5 0 0 0\nmark a 100\n"
+
+pub two_holders_answers : answers_for (with 4 1) two_holders ≡ codes "1 created 1 at 0\n3 deleted 1 at 11\n4 created 2 at 11\n"
+unfolding digits
+two_holders_answers = refl
+
+pub first_holder : text_of (with 4 1) (items two_holders) 1 ≡ codes "0 100 1\n"
+unfolding digits
+first_holder = refl
+
+pub second_holder : text_of (with 4 1) (items two_holders) 2 ≡ codes "0 100 5\n"
+unfolding digits
+second_holder = refl
+
+-- each record lies in two windows
+pub sliding_sums : held_at 1 (codes "create sum v1 by key from a slide 10 5\nrec a 7 1 3 0 0 0\nrec a 12 1 4 0 0 0\nmark a 20\n")
+    ≡ codes "0 10 1 3\n5 15 1 7\n10 20 1 4\n"
+unfolding digits
+sliding_sums = refl
+
+-- a record that came too late is not counted
+abbrev late_count : List ℕ
+late_count = codes "create count by all from a tumble 100\nrec a 10 1 0 0 0 0\nrec a 9 1 0 0 0 0\nrec a 10 1 0 0 0 0\n"
+
+pub late_count_answers : answered late_count ≡ codes "1 created 1 at 0\n3 late\n"
+unfolding digits
+late_count_answers = refl
+
+pub late_count_output : held_in_the_end 1 late_count ≡ codes "0 100 2\n"
+unfolding digits
+late_count_output = refl
+
+-- a deletion does not pass a window; the watermark does, where it reaches the end of the query's life
+abbrev cut_input : List ℕ
+cut_input = codes "create count by all from a tumble 1000\nrec a 50 1 0 0 0 0\nmark a 100\ndelete 1\nmark a 100\n"
+
+pub cut_early : held_at 1 cut_input ≡ []
+unfolding digits
+cut_early = refl
+
+pub cut_answers : answered cut_input ≡ codes "1 created 1 at 0\n4 deleted 1 at 101\n"
+unfolding digits
+cut_answers = refl
+
+pub cut_window : held_at 1 (cut_input ++ codes "mark a 101\n") ≡ codes "0 1000 1\n"
+unfolding digits
+cut_window = refl
+
+-- a window is passed where the watermark reaches its end, and no tick before
+abbrev edge_input : List ℕ
+edge_input = codes "create count by all from a tumble 10\nrec a 3 1 0 0 0 0\nmark a 9\n"
+
+pub before_the_edge : held_at 1 edge_input ≡ []
+unfolding digits
+before_the_edge = refl
+
+pub at_the_edge : held_at 1 (edge_input ++ codes "rec a 10 1 0 0 0 0\nmark a 10\n") ≡ codes "0 10 1\n"
+unfolding digits
+at_the_edge = refl
+
+pub after_the_edge : held_in_the_end 1 (edge_input ++ codes "rec a 10 1 0 0 0 0\nmark a 10\n") ≡ codes "0 10 1\n10 20 1\n"
+unfolding digits
+after_the_edge = refl
+
+-- a watermark may pass all windows at once, and the last window of all ends after all times
+pub all_at_once : held_at 1 (codes "create count by all from a tumble 1\nrec a 0 1 0 0 0 0\nmark a 4611686018427387903\n") ≡ codes "0 1 1\n"
+unfolding digits
+all_at_once = refl
+
+abbrev last_input : List ℕ
+last_input = codes "create count by all from a tumble 10\nrec a 4611686018427387903 1 0 0 0 0\ndelete 1\n"
+
+pub last_answers : answered last_input ≡ codes "1 created 1 at 0\n3 deleted 1 at 4611686018427387904\n"
+unfolding digits
+last_answers = refl
+
+pub last_window : held_in_the_end 1 last_input ≡ codes "4611686018427387900 4611686018427387910 1\n"
+unfolding digits
+last_window = refl
+
+-- a sum of more than 64 bits, by a column
+pub wide_sum : held_at 1 (codes "create sum v1 by v2 from a tumble 10\nrec a 1 3 9223372036854775807 5 0 0\nrec a 2 4 9223372036854775807 5 0 0\nmark a 10\n")
+    ≡ codes "0 10 5 18446744073709551614\n"
+unfolding digits
+wide_sum = refl
 
 -- the words of `run`: two options, none, another, one that is out of its range, one given twice, one without its number, and none
 pub run_words : command_of (codes "run" ∷ codes "--slots" ∷ codes "1" ∷ codes "--streams" ∷ codes "2" ∷ []) ≡ Some (Run (with 2 1) (2 ^ 40))

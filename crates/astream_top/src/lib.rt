@@ -3,7 +3,6 @@
 
 mod command;
 mod explain;
-mod list_engine;
 mod run;
 mod top;
 

@@ -12,10 +12,10 @@ ghost use Rattle.astream_top.specs.Run.{ended_by};
 
 use crate::command::{Command, command_of};
 use crate::explain::explain;
-use crate::list_engine::ListEngine;
 use crate::run::{run_all, start};
 use as_base::{Config, NoMemory, Numbers};
 use as_outside::{Desk, Gate, Report, Status, SureDesk};
+use plain_engine::PlainEngine;
 use service::{Broken, Processor, Stop};
 use std::alloc::Global;
 use std::thread::Threads;
@@ -44,7 +44,7 @@ fn run_within<D: Desk>(alloc: Global, desk: &mut D, config: Config, limit: u64) 
         IsRead limit input result.status (D.seen desk.new).left }
     ensures no_usage { result.status ≡ Status.Usage → ⊥ }
 {
-    let engine = match ListEngine::new(alloc, config) {
+    let engine = match PlainEngine::new(alloc, config) {
         Ok(engine) => engine,
         Err(NoMemory) => return empty_report(alloc, Status::NoMemory),
     };

@@ -16,8 +16,9 @@ use Rattle.as_words.specs.Number.{IsSigned}
 use Rattle.as_words.proofs.NumberLaws.{mag-signed}
 use Rattle.query_text.specs.Spelling.{FitsConds}
 use Rattle.query_text.specs.Names.{fields}
-use Rattle.query_plan.specs.Limits.{lowest, highest, low_by, high_by, low_of, high_of, bounds_of}
-use Rattle.query_plan.specs.Canonical.{FitsBounds}
+use Rattle.query_plan.specs.Limits.{low_by, high_by, low_of, high_of, bounds_of}
+use Rattle.as_base.specs.Query.{lowest, highest}
+use Rattle.as_base.specs.Canonical.{FitsBounds}
 use Rattle.query_plan.specs.Text.{comparison, conds_of_interval, conds_of_ends, conds_of_high, conds_of}
 
 -- the range of a field, as an order

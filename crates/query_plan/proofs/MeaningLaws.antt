@@ -13,7 +13,8 @@ use Rattle.query_text.specs.declared.ast.Op.TheVariants.{Lt, Le, Eq, Ge, Gt}
 use Rattle.query_text.specs.declared.ast.Cond.{Cond}
 use Rattle.as_words.specs.Number.{IsSigned}
 use Rattle.query_text.specs.Spelling.{FitsConds}
-use Rattle.query_plan.specs.Limits.{lowest, highest, low_by, high_by, low_of, high_of, bounds_of}
+use Rattle.query_plan.specs.Limits.{low_by, high_by, low_of, high_of, bounds_of}
+use Rattle.as_base.specs.Query.{lowest, highest}
 use Rattle.query_plan.specs.Meaning.{compares, field_value, meets_all, FitsGiven}
 use Rattle.query_plan.proofs.LimitLaws.{above_lowest, below_highest, fits_at}
 

@@ -18,9 +18,10 @@ use Rattle.query_text.specs.declared.tree.Stem.{Stem}
 use Rattle.query_text.specs.declared.tree.Head.{Head}
 use Rattle.query_text.specs.Spelling.{WrittenQuery, FitsWindow, FitsConds, FitsRight, FitsText, size_and_slide, kind_of, tree, tree_of}
 use Rattle.query_plan.specs.declared.planning.Misfit.{Misfit}
-use Rattle.query_plan.specs.Limits.{bounds_of, unlimited}
+use Rattle.query_plan.specs.Limits.{bounds_of}
+use Rattle.as_base.specs.Query.{unlimited}
 use Rattle.query_plan.specs.Planning.{IsTree, is_stranger, names_stranger, names_twin, windows_of, window_of, plan_unchecked, plan}
-use Rattle.query_plan.specs.Canonical.{HasOneSide, IsCanonicalAs, IsCanonical, FitsBounds, FitsStreams, FitsPlan}
+use Rattle.as_base.specs.Canonical.{HasOneSide, IsCanonicalAs, IsCanonical, FitsBounds, FitsStreams, FitsPlan}
 use Rattle.query_plan.specs.Text.{conds_of, written_window, head_as, right_conds_as, written_query}
 use Rattle.query_plan.proofs.LimitLaws.{bounds_of-conds_of, bounds_of-fits, conds_of-fits}
 

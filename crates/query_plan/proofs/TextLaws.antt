@@ -37,9 +37,9 @@ use Rattle.as_words.specs.Prefix.{IsPrefix}
 use Rattle.as_words.specs.Appends.{AppendsPrefix}
 use Rattle.as_words.proofs.AppendsLaws.{AppendsPrefix-after, AppendsPrefix-stopped}
 use Rattle.query_text.proofs.TextLaws.{one_tree_told}
-use Rattle.query_plan.specs.Limits.{lowest, highest}
+use Rattle.as_base.specs.Query.{lowest, highest}
 use Rattle.query_plan.specs.Planning.{or_word, plan_of_reading, plan_of}
-use Rattle.query_plan.specs.Canonical.{IsCanonical, FitsPlan}
+use Rattle.as_base.specs.Canonical.{IsCanonical, FitsPlan}
 use Rattle.query_plan.specs.Text.{comparison, words_at, verb_word, names_as, windows_as, conds_of_interval, conds_of_high, conds_of_ends, is_limited, conds_of, head_as, opening_word, right_conds_as, right_words, written_query, canonical_text}
 use Rattle.query_plan.proofs.LimitLaws.{conds_of-few}
 use Rattle.query_plan.proofs.WordLaws.{AreShort, AreShort-append, short, text_words-joined, is_text-joined}

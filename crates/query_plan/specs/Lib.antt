@@ -1,11 +1,11 @@
 pub mod Limits
 pub mod Planning
-pub mod Canonical
 pub mod Text
 pub mod Meaning
 pub use Rattle.as_words.specs.Appends
 pub use Rattle.as_words.specs.Number
 pub use Rattle.as_base.specs.Query
+pub use Rattle.as_base.specs.Canonical
 pub use Rattle.as_base.specs.Stream
 pub use Rattle.as_base.specs.Text.{is_text}
 pub use Rattle.as_base.specs.Windows

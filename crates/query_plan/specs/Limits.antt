@@ -1,19 +1,12 @@
 -- The interval that conditions leave of each field, both ends included.
-use Rattle.std.specs.Prelude.{ℕ, ◌==◌, ◌^◌, ◌-◌, ℤ, pos, negsuc, ◌+ℤ◌, ◌-ℤ◌, if◌then◌else◌, List, [], ◌∷◌}
+use Rattle.std.specs.Prelude.{ℕ, ◌==◌, ◌-◌, ℤ, pos, ◌+ℤ◌, ◌-ℤ◌, if◌then◌else◌, List, [], ◌∷◌}
 use Rattle.std.specs.Int.{int_max, int_min}
 use Rattle.std.specs.Ordering.{int_eq}
 use Rattle.as_base.specs.declared.query.Bounds.{Bounds}
+use Rattle.as_base.specs.Query.{lowest, highest}
 use Rattle.query_text.specs.declared.ast.Op.{Op}
 use Rattle.query_text.specs.declared.ast.Op.TheVariants.{Lt, Le, Eq, Ge, Gt}
 use Rattle.query_text.specs.declared.ast.Cond.{Cond}
-
--- the least number that a field may have: -2^63
-abbrev pub lowest : ℤ
-lowest = negsuc (2 ^ 63 - 1)
-
--- the greatest number that a field may have: 2^63 - 1
-abbrev pub highest : ℤ
-highest = pos (2 ^ 63 - 1)
 
 -- what `op n` raises the low end to at least
 abbrev pub low_by : Op → ℤ → ℤ
@@ -46,11 +39,4 @@ abbrev pub bounds_of : List Cond → Bounds
 bounds_of cs = record {
   lo = low_of 0 cs ∷ low_of 1 cs ∷ low_of 2 cs ∷ low_of 3 cs ∷ low_of 4 cs ∷ [];
   hi = high_of 0 cs ∷ high_of 1 cs ∷ high_of 2 cs ∷ high_of 3 cs ∷ high_of 4 cs ∷ [];
-}
-
--- each field may have each number
-abbrev pub unlimited : Bounds
-unlimited = record {
-  lo = lowest ∷ lowest ∷ lowest ∷ lowest ∷ lowest ∷ [];
-  hi = highest ∷ highest ∷ highest ∷ highest ∷ highest ∷ [];
 }

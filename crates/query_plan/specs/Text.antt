@@ -18,7 +18,7 @@ use Rattle.query_text.specs.Spelling.{WrittenQuery, window_words, conds_words, q
 use Rattle.as_words.specs.Words.{joined}
 use Rattle.as_base.specs.Stream.{stream_name}
 use denote.Ref.{Bor}
-use Rattle.query_plan.specs.Limits.{lowest, highest}
+use Rattle.as_base.specs.Query.{lowest, highest}
 
 -- the condition `field op z`
 abbrev pub comparison : ℕ → Op → ℤ → Cond

@@ -9,7 +9,7 @@ ghost use Rattle.query_text.specs.Spelling.{FitsConds};
 ghost use Rattle.query_plan.specs.Limits.{bounds_of};
 ghost use Rattle.query_plan.specs.Meaning.{meets_all, FitsGiven};
 ghost use Rattle.query_plan.specs.Planning.{IsTree, plan, plan_of};
-ghost use Rattle.query_plan.specs.Canonical.{IsCanonical, FitsPlan};
+ghost use Rattle.as_base.specs.Canonical.{IsCanonical, FitsPlan};
 ghost use Rattle.query_plan.specs.Text.{canonical_text};
 
 /// What `explain` writes of a canonical plan that fits is read and planned as this plan.

@@ -1,6 +1,6 @@
 ghost use Rattle.std.specs.Prelude.{◌≡◌, ◌≤◌, IfOk};
 ghost use Rattle.query_plan.specs.Planning.{IsTree, is_stranger, names_stranger, names_twin, window_of, plan, word_of_misfit, plan_of};
-ghost use Rattle.query_plan.specs.Canonical.{IsCanonical, FitsPlan};
+ghost use Rattle.as_base.specs.Canonical.{IsCanonical, FitsPlan};
 
 use crate::limits::bounds_of;
 use as_base::{NoMemory, Plan, StreamId, Text, WinSpec, Word};

@@ -1,1 +1,4 @@
 pub mod TextLaws
+pub mod TakingLaws
+pub mod RowLaws
+pub mod ReadingLaws

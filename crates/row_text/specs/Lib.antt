@@ -1,4 +1,7 @@
 pub mod RowText
+pub mod Fits
+pub mod Taking
+pub mod Worked
 pub use Rattle.as_words.specs.Appends
 pub use Rattle.as_words.specs.Prefix
 pub use Rattle.as_base.specs.declared.row.Row

@@ -1,10 +1,12 @@
-//! The text of rows, as outputs have it.
+//! The text of rows, as outputs have it, written and read.
 #![tactic(auto)]
 
 mod laws;
+mod reading;
 mod row;
 
 pub use laws::texts_only_grow;
+pub use reading::read_row;
 pub use row::append_row;
 
 #[cfg(test)]

@@ -1,7 +1,7 @@
 -- Each message may follow the view before it, and so each view is one that messages make.
-use Rattle.std.proofs.Common.{◌≡◌, ℕ, ◌+◌, ◌^◌, ◌≤◌, ◌<◌, max, nat_lt, ◌||◌, Bool, true, false, true≢false, cond, ⊎_elim, Result, Ok, Err, Option, Some, None, is_none, List, [], ◌∷◌, ◌++◌, map, length, get_or, refl, sym, ap, ap₂, subst, ◌∙◌, arith}
+use Rattle.std.proofs.Common.{◌≡◌, ℕ, ◌+◌, ◌^◌, ◌≤◌, ◌<◌, max, nat_lt, ◌||◌, Bool, true, false, true≢false, cond, inl, inr, ⊎_elim, Result, Ok, Err, Option, Some, None, is_none, List, [], ◌∷◌, ◌++◌, map, length, get_or, refl, sym, ap, ap₂, subst, ◌∙◌, arith}
 use Rattle.std.specs.List.{filter, list_any, AllByRecursion}
-use Rattle.std.proofs.lemmas.Bool.{ltb-false}
+use Rattle.std.proofs.lemmas.Bool.{ltb-false, cases_lt}
 use Rattle.std.proofs.lemmas.List.{length_push}
 use Rattle.as_base.specs.declared.config.Config.{Config}
 use Rattle.as_base.specs.declared.stream.StreamId.{StreamId}
@@ -10,7 +10,6 @@ use Rattle.as_base.specs.declared.item.Given.{Given}
 use Rattle.as_base.specs.declared.item.Item.{Item}
 use Rattle.as_base.specs.declared.item.Item.TheVariants.{Rec, Mark, End, Create, Delete, Bad}
 use Rattle.as_base.specs.declared.item.Record.{Record}
-use Rattle.as_base.specs.declared.query.Kind.{Kind}
 use Rattle.as_base.specs.declared.query.Plan.{Plan}
 use Rattle.as_base.specs.declared.answer.Word.{Word}
 use Rattle.as_base.specs.declared.answer.Word.TheVariants as word
@@ -22,11 +21,10 @@ use Rattle.query_text.specs.declared.ast.Ast.{Ast}
 use Rattle.query_text.specs.Reading.{read_text, text_words}
 use Rattle.query_text.proofs.TextLaws.{one_tree_told}
 use Rattle.query_plan.specs.declared.planning.Misfit.{Misfit}
-use Rattle.query_plan.specs.Canonical.{IsCanonicalAs}
 use Rattle.query_plan.specs.Planning.{IsTree, plan, or_word, plan_of_reading}
 use Rattle.query_plan.proofs.PlanLaws.{plans_are_canonical, place_injective}
 use Rattle.views.specs.Query.{is_live}
-use Rattle.views.specs.Message.{RecordFollows, MarksFollow, ChangeFollows, Follows}
+use Rattle.views.specs.Message.{RecordFollows, MarksFollow, ChangeFollows, IsOpenable, Follows}
 use Rattle.views.specs.IsView.{IsView, first_view}
 use Rattle.views.proofs.ListLaws.{All-by, All-push, All-append, All-first, All-rest}
 use Rattle.views.proofs.ViewLaws.{IsView-first, IsView-after}
@@ -34,12 +32,13 @@ use Rattle.session.specs.declared.session.Clock.{Clock}
 use Rattle.session.specs.Acceptance.{is_on, is_end, up_to_end, counting, time_of, mark_of, tick_after, greatest, front, top_mark, has_ended, watermark, seen_on, changelog_time}
 use Rattle.session.specs.Book.{book, refusal}
 use Rattle.session.specs.Message.{opening, message_of, message}
-use Rattle.session.specs.Planned.{plan_for, is_select, built}
+use Rattle.session.specs.Planned.{plan_for, is_built, built}
 use Rattle.session.specs.View.{record_of, records, view}
 use Rattle.session.proofs.BookLaws.{records-push}
 use Rattle.session.proofs.ClockLaws.{counts, counts-open, front-push, top_mark-push, seen_on-push, has_ended-push, top_mark-front, front-seen, clock-none}
 use Rattle.session.proofs.DecisionLaws.{accepted-open, accepted-message, refused-message}
 use Rattle.session.proofs.HistoryLaws.{by_push}
+use Rattle.session.proofs.OpenableLaws.{built_may_open}
 use Rattle.session.proofs.ViewLaws.{refused_or_not, same, view-message, view-same, deletion-accepted}
 
 -- ---- nothing falls
@@ -201,10 +200,34 @@ marks-follow c h x all within = record {
   most = λ s. let b = mark-at c (h ++ x ∷ []) s in let d = watermark-most c (h ++ x ∷ []) s (All-push InRange h x all within) in omega (arith, b, d);
 }
 
--- a change at the changelog time comes after every record
+mark-before : (x : Item) → 0 < mark_of x → mark_of x < tick_after x
+mark-before (Rec g) some = absurd (omega (arith, some))
+mark-before (Mark s t) some = omega arith
+mark-before (End s) some = absurd (omega (arith, some))
+mark-before (Create text) some = absurd (omega (arith, some))
+mark-before (Delete n) some = absurd (omega (arith, some))
+mark-before (Bad cause) some = absurd (omega (arith, some))
+
+max-before : (a b d e : ℕ) → (0 < a → a < d) → (0 < b → b < e) → 0 < max a b → max a b < max d e
+max-before a b d e f g some = elim (cases_lt a b) [ inl low ↦ omega (arith, low, g (omega (arith, low))) | inr high ↦ omega (arith, high, f (omega (arith, some, high))) ]
+
+greatest-before : (h : List Item) → 0 < greatest mark_of h → greatest mark_of h < greatest tick_after h
+greatest-before [] some = absurd (omega (arith, some))
+greatest-before (x ∷ h) some = max-before (mark_of x) (greatest mark_of h) (tick_after x) (greatest tick_after h) (mark-before x) (greatest-before h) some
+
+-- the watermark of a stream that has one, and has not ended, is before the changelog time
+pub watermark-before : (c : Config) (h : List Item) (s : StreamId) → 0 < watermark c h s → watermark c h s < 2 ^ 62 → watermark c h s < changelog_time c h
+watermark-before c h s = go (has_ended c h s)
+  where
+    go : (b : Bool) → 0 < cond b (2 ^ 62) (top_mark c h s) → cond b (2 ^ 62) (top_mark c h s) < 2 ^ 62 → cond b (2 ^ 62) (top_mark c h s) < changelog_time c h
+    go true some low = absurd (omega (arith, low))
+    go false some low = let a = greatest-before (counting c s h) some in let b = seen_on-changelog c h s in omega (arith, a, b)
+
+-- a change at the changelog time comes after every record and every watermark
 change-follows : (c : Config) (h : List Item) → AllByRecursion InRange h → ChangeFollows (view c h) (changelog_time c h)
 change-follows c h all = record {
   most = changelog-most c h all;
+  marks = λ s. subst (λ m. 0 < m → m < 2 ^ 62 → m < changelog_time c h) (sym (mark-at c h s)) (watermark-before c h s);
   records = All-by (IsTaken c h) (λ (r : Record). r.given.time < changelog_time c h)
       (λ r t. let a = t.seen in let b = seen_on-changelog c h r.given.stream in omega (arith, a, b)) (records c h) (records-taken c h all);
 }
@@ -221,38 +244,32 @@ record-follows c h g all within e =
           (λ r t one. let a = t.reached in let b = ap (front c h) (place_injective r.given.stream g.stream one) in omega (arith, a, b, up)) (records c h) (records-taken c h all);
     }
 
--- a selection reads one stream
-kind-one : (p : Plan) (k : Kind) → is_select k ≡ true → IsCanonicalAs k p → p.right ≡ p.left
-kind-one p Kind.Select e canonical = (canonical.0).0
-kind-one p (Kind.Sum col) e canonical = absurd (true≢false (sym e))
-kind-one p Kind.Count e canonical = absurd (true≢false (sym e))
-kind-one p Kind.Join e canonical = absurd (true≢false (sym e))
-
-read-one : (many : ℕ) (ast : Ast) (p : Plan) → IsTree ast → or_word (plan many ast) ≡ Ok p → is_select p.kind ≡ true → p.right ≡ p.left
-read-one many ast p tree e select = go (plan many ast) refl e
+read-openable : (many : ℕ) (ast : Ast) (p : Plan) → IsTree ast → or_word (plan many ast) ≡ Ok p → is_built p.kind ≡ true → IsOpenable p
+read-openable many ast p tree e ok = go (plan many ast) refl e
   where
-    go : (r : Result Plan Misfit) → plan many ast ≡ r → or_word r ≡ Ok p → p.right ≡ p.left
-    go (Ok q) is e = kind-one p p.kind select (plans_are_canonical many ast p tree (is ∙ ap (λ w. elim w [ Ok v ↦ Ok v | Err u ↦ Ok q ]) e)).0
+    go : (r : Result Plan Misfit) → plan many ast ≡ r → or_word r ≡ Ok p → IsOpenable p
+    go (Ok q) is e = let both = plans_are_canonical many ast p tree (is ∙ ap (λ w. elim w [ Ok v ↦ Ok v | Err u ↦ Ok q ]) e) in built_may_open p ok both.0 both.1
     go (Err m) is e = absurd (cc e)
 
-built-is : (r : Result Plan Word) (p : Plan) → built r ≡ Some p → (r ≡ Ok p) × (is_select p.kind ≡ true)
+built-is : (r : Result Plan Word) (p : Plan) → built r ≡ Some p → (r ≡ Ok p) × (is_built p.kind ≡ true)
 built-is (Err w) p e = absurd (true≢false (ap is_none e))
-built-is (Ok q) p e = go (is_select q.kind) refl e
+built-is (Ok q) p e = go (is_built q.kind) refl e
   where
-    go : (b : Bool) → is_select q.kind ≡ b → cond b (Some q) None ≡ Some p → (◌≡◌ {A = Result Plan Word} (Ok q) (Ok p)) × (is_select p.kind ≡ true)
-    go true is e = let one = same e in (ap Ok one, ap (λ (p : Plan). is_select p.kind) (sym one) ∙ is)
+    go : (b : Bool) → is_built q.kind ≡ b → cond b (Some q) None ≡ Some p → (◌≡◌ {A = Result Plan Word} (Ok q) (Ok p)) × (is_built p.kind ≡ true)
+    go true is e = let one = same e in (ap Ok one, ap (λ (p : Plan). is_built p.kind) (sym one) ∙ is)
     go false is e = absurd (true≢false (ap is_none e))
 
-pub built-one : (c : Config) (text : List ℕ) (p : Plan) → built (plan_for c text) ≡ Some p → p.right ≡ p.left
-built-one c text p e = let planned = built-is (plan_for c text) p e in go (read_text text) refl planned.0 planned.1
+-- the plan of a text that is built may be opened
+pub built-openable : (c : Config) (text : List ℕ) (p : Plan) → built (plan_for c text) ≡ Some p → IsOpenable p
+built-openable c text p e = let planned = built-is (plan_for c text) p e in go (read_text text) refl planned.0 planned.1
   where
-    go : (r : Result Ast ℕ) → read_text text ≡ r → plan_of_reading c.streams r ≡ Ok p → is_select p.kind ≡ true → p.right ≡ p.left
-    go (Ok ast) is e select = let tree = (one_tree_told (text_words text) ast).1 is in read-one c.streams ast p (tree.0, (tree.1).0, tree.2) e select
-    go (Err place) is e select = absurd (cc e)
+    go : (r : Result Ast ℕ) → read_text text ≡ r → plan_of_reading c.streams r ≡ Ok p → is_built p.kind ≡ true → IsOpenable p
+    go (Ok ast) is e ok = let tree = (one_tree_told (text_words text) ast).1 is in read-openable c.streams ast p (tree.0, (tree.1).0, tree.2) e ok
+    go (Err place) is e ok = absurd (cc e)
 
 opened-follows : (c : Config) (h : List Item) (text : List ℕ) (p : Option Plan) (m : Msg) → AllByRecursion InRange h → built (plan_for c text) ≡ p → opening c h p ≡ Some m → Follows (view c h) m
 opened-follows c h text None m all is e = absurd (true≢false (ap is_none e))
-opened-follows c h text (Some plan) m all is e = subst (Follows (view c h)) (same e) (change-follows c h all, refl, built-one c text plan is)
+opened-follows c h text (Some plan) m all is e = subst (Follows (view c h)) (same e) (change-follows c h all, refl, built-openable c text plan is)
 
 accepted-follows : (c : Config) (h : List Item) (x : Item) (m : Msg) → AllByRecursion InRange h → InRange x → refusal c h x ≡ None → message_of c h x ≡ Some m → Follows (view c h) m
 accepted-follows c h (Rec g) m all within e is = subst (Follows (view c h)) (same is) (record-follows c h g all within e)

@@ -1,4 +1,4 @@
--- What an item adds to the rows that are due and to the text of an output: only an accepted watermark or end adds any.
+-- What an item adds to the text of an output: only an accepted watermark or end adds any. The rows of passed windows stay.
 use Rattle.std.proofs.Common.{◌≡◌, ℕ, ◌&&◌, Bool, true, false, true≢false, cond, Option, Some, None, List, [], ◌∷◌, ◌++◌, refl, sym, ap, ◌∙◌, append-nil}
 use Rattle.std.specs.List.{AllByRecursion}
 use Rattle.as_words.specs.Prefix.{IsPrefix}
@@ -10,8 +10,8 @@ use Rattle.as_base.specs.declared.message.Msg.{Msg}
 use Rattle.as_base.specs.declared.query.Plan.{Plan}
 use Rattle.as_base.specs.declared.row.Row.{Row}
 use Rattle.views.specs.View.{View}
-use Rattle.views.specs.Rows.{due_to}
-use Rattle.views.proofs.DueLaws.{due_by, due_to-after}
+use Rattle.views.specs.Rows.{has_passed, rows_of}
+use Rattle.views.proofs.DueLaws.{due_by, has_passed-after, rows_of-after}
 use Rattle.row_text.specs.RowText.{text_of as text_by}
 use Rattle.row_text.proofs.TextLaws.{text_of_rows, text_of-after}
 use Rattle.session.specs.Book.{accepts}
@@ -27,18 +27,7 @@ abbrev pub due_of : View → Option Msg → ℕ → List Row
 due_of v None n = []
 due_of v (Some m) n = due_by v m n
 
--- what an item adds to the rows that are due to query n
-pub due_to-push : (c : Config) (h : List Item) (x : Item) (n : ℕ) → AllByRecursion InRange h → InRange x
-    → due_to (view c (h ++ x ∷ [])) n ≡ due_to (view c h) n ++ due_of (view c h) (message c h x) n
-due_to-push c h x n all within = go (message c h x) refl
-  where
-    go : (o : Option Msg) → message c h x ≡ o → due_to (view c (h ++ x ∷ [])) n ≡ due_to (view c h) n ++ due_of (view c h) o n
-    go (Some m) is =
-        ap (λ v. due_to v n) (view-message c h x m is)
-        ∙ due_to-after (view c h) m n (view-is c h all) (message-follows c h x m all within is)
-    go None is = ap (λ v. due_to v n) (view-same c h x is) ∙ sym (append-nil (due_to (view c h) n))
-
--- and to the text of its output
+-- what an item adds to the text of an output
 pub text_of-push : (c : Config) (h : List Item) (x : Item) (n : ℕ) → AllByRecursion InRange h → InRange x
     → text_of c (h ++ x ∷ []) n ≡ text_of c h n ++ text_of_rows (due_of (view c h) (message c h x) n)
 text_of-push c h x n all within = go (message c h x) refl
@@ -79,5 +68,15 @@ pub text-quiet : (c : Config) (h : List Item) (x : Item) (n : ℕ) → AllByRecu
 text-quiet c h x n all within quiet =
     text_of-push c h x n all within ∙ ap (λ rows. text_of c h n ++ text_of_rows rows) (due_of-quiet c h x n quiet) ∙ append-nil (text_of c h n)
 
-pub rows-stay : (c : Config) (h : List Item) (x : Item) (n : ℕ) → AllByRecursion InRange h → InRange x → IsPrefix (due_to (view c h) n) (due_to (view c (h ++ x ∷ [])) n)
-rows-stay c h x n all within = (due_of (view c h) (message c h x) n, due_to-push c h x n all within)
+pub windows-stay : (c : Config) (h : List Item) (x : Item) (n k : ℕ) → AllByRecursion InRange h → InRange x → has_passed (view c h) n k ≡ true
+    → (has_passed (view c (h ++ x ∷ [])) n k ≡ true) × (rows_of (view c (h ++ x ∷ [])) n k ≡ rows_of (view c h) n k)
+windows-stay c h x n k all within passed = go (message c h x) refl
+  where
+    go : (o : Option Msg) → message c h x ≡ o → (has_passed (view c (h ++ x ∷ [])) n k ≡ true) × (rows_of (view c (h ++ x ∷ [])) n k ≡ rows_of (view c h) n k)
+    go (Some m) is =
+        let made = view-is c h all in
+        let follows = message-follows c h x m all within is in (
+          ap (λ v. has_passed v n k) (view-message c h x m is) ∙ has_passed-after (view c h) m n k made follows passed,
+          ap (λ v. rows_of v n k) (view-message c h x m is) ∙ rows_of-after (view c h) m n k made follows passed,
+        )
+    go None is = (ap (λ v. has_passed v n k) (view-same c h x is) ∙ passed, ap (λ v. rows_of v n k) (view-same c h x is))

@@ -25,7 +25,7 @@ use Rattle.session.specs.declared.session.Seat.{Seat}
 use Rattle.session.specs.declared.session.Session.{Session}
 use Rattle.session.specs.declared.decision.Decision.TheVariants.{Pass, Told, Acted}
 use Rattle.session.specs.Acceptance.{front, top_mark, has_ended, changelog_time, seen_on, greatest, tick_after}
-use Rattle.session.specs.Planned.{plan_for, is_select, built, unplanned}
+use Rattle.session.specs.Planned.{plan_for, is_built, built, unplanned}
 use Rattle.session.specs.Book.{book, has_slot, refusal, refusal_of_cause, creation_refusal}
 use Rattle.session.specs.Holders.{Holder, queries_of, slots_of, least_free, with_holder, closed_holder, holders}
 use Rattle.session.specs.Decision.{IsDecided}
@@ -200,14 +200,14 @@ bad-step {c} {h} cause s = refused-step (Bad cause) (refusal_of_cause cause) s r
 -- a query that is refused whatever slots there are has no plan that is built
 pub unplanned-none : (p : Result Plan Word) (w : Word) → unplanned p ≡ Some w → built p ≡ None
 unplanned-none (Err u) w e = refl
-unplanned-none (Ok plan) w e = go (is_select plan.kind) e
+unplanned-none (Ok plan) w e = go (is_built plan.kind) e
   where
     go : (b : Bool) → cond b None (Some word.Later) ≡ Some w → cond b (Some plan) None ≡ None
     go true e = absurd (true≢false (ap is_none e))
     go false e = refl
 
 -- one that is not has one
-pub unplanned-some : (p : Result Plan Word) (plan : Plan) → p ≡ Ok plan → is_select plan.kind ≡ true → (unplanned p ≡ None) × (built p ≡ Some plan)
+pub unplanned-some : (p : Result Plan Word) (plan : Plan) → p ≡ Ok plan → is_built plan.kind ≡ true → (unplanned p ≡ None) × (built p ≡ Some plan)
 unplanned-some p plan is ok =
     (ap unplanned is ∙ ap (λ b. cond b None (Some word.Later)) ok, ap built is ∙ ap (λ b. cond b (Some plan) None) ok)
 
@@ -247,7 +247,7 @@ has_slot-live {c} {h} s =
 
 -- a creation where each slot is held
 pub full-step : {c : Config} {h : List Item} {streams items : ℕ} {clocks : List Clock} {changelog made : ℕ} {slots : List Bool} {live : List Seat} (text : List ℕ) (plan : Plan) → Stands c h streams items clocks changelog made slots live
-    → plan_for c text ≡ Ok plan → is_select plan.kind ≡ true → position (λ on. not on) slots ≡ None
+    → plan_for c text ≡ Ok plan → is_built plan.kind ≡ true → position (λ on. not on) slots ≡ None
     → Stands c (h ++ Create text ∷ []) streams (items + 1) clocks changelog made slots live × IsDecided c h (Create text) (Told (record { line = items + 1; word = word.Full }))
 full-step {c} {h} {streams} {items} {clocks} {changelog} {made} {slots} text plan s is ok none =
     let full = has_slot-live s ∙ le-ltb (live_count slots) (length slots) (let e = live_count-full slots (sym none) in omega (arith, e)) in
@@ -255,7 +255,7 @@ full-step {c} {h} {streams} {items} {clocks} {changelog} {made} {slots} text pla
 
 -- a creation where a slot is free, which gets the least
 pub open-step : {c : Config} {h : List Item} {streams items : ℕ} {clocks : List Clock} {changelog made : ℕ} {slots : List Bool} {live : List Seat} (text : List ℕ) (plan : Plan) (slot : ℕ) → Stands c h streams items clocks changelog made slots live
-    → plan_for c text ≡ Ok plan → is_select plan.kind ≡ true → position (λ on. not on) slots ≡ Some slot
+    → plan_for c text ≡ Ok plan → is_built plan.kind ≡ true → position (λ on. not on) slots ≡ Some slot
     → Stands c (h ++ Create text ∷ []) streams (items + 1) clocks changelog (made + 1) (set slots slot true) (live ++ (record { n = made + 1; slot = slot }) ∷ [])
     × IsDecided c h (Create text) (Acted (record { line = items + 1; word = word.Created (made + 1) changelog }) (Opened (made + 1) slot changelog plan))
 open-step {c} {h} {streams} {items} {clocks} {changelog} {made} {slots} {live} text plan slot s is ok free =

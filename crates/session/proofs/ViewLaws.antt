@@ -29,7 +29,7 @@ use Rattle.session.specs.Book.{book, has_slot, with_query, numbers, stream_refus
 use Rattle.session.specs.Holders.{holders, queries_of}
 use Rattle.session.specs.Message.{opening, message_of, message}
 use Rattle.session.specs.Outcome.{created_by, created}
-use Rattle.session.specs.Planned.{plan_for, is_select, built, unplanned}
+use Rattle.session.specs.Planned.{plan_for, is_built, built, unplanned}
 use Rattle.session.specs.View.{record_of, records, view}
 use Rattle.session.proofs.BookLaws.{book-push, records-push, closed-numbers}
 use Rattle.session.proofs.ClockLaws.{IsStill, counts, clocks-still, has_ended-push, top_mark-push}
@@ -169,7 +169,7 @@ view-message c h x m is =
 -- a query that is not refused by its text has a plan that is built
 pub unplanned-built : (p : Result Plan Word) → unplanned p ≡ None → built p ≡ None → ⊥
 unplanned-built (Err w) e none = true≢false (sym (ap is_none e))
-unplanned-built (Ok plan) e none = go (is_select plan.kind) e none
+unplanned-built (Ok plan) e none = go (is_built plan.kind) e none
   where
     go : (b : Bool) → cond b None (Some word.Later) ≡ None → cond b (Some plan) None ≡ None → ⊥
     go true e none = true≢false (sym (ap is_none none))
@@ -213,7 +213,7 @@ unplanned-quiet many (Ok tree) = go (plan many tree)
     go (Err Misfit.Stranger) = refl
     go (Err Misfit.Twin) = refl
     go (Err Misfit.Window) = refl
-    go (Ok plan) = yet (is_select plan.kind)
+    go (Ok plan) = yet (is_built plan.kind)
 
 stream-quiet : (c : Config) (h : List Item) (s : StreamId) (behind : Bool) (last : Word) → created_by last ≡ [] → created_of (stream_refusal c h s behind last) ≡ []
 stream-quiet c h s behind last e = go (is_configured c s) (has_ended c h s) behind

@@ -1,4 +1,4 @@
-ghost use Rattle.std.specs.Prelude.{◌≡◌, ℕ, false, [], ◌∷◌, ◌++◌, List, Some, None, length, count_by};
+ghost use Rattle.std.specs.Prelude.{◌≡◌, ℕ, true, false, [], ◌∷◌, ◌++◌, List, Some, None, length, count_by};
 ghost use Rattle.std.specs.List.{range_with_len, AllByRecursion};
 ghost use Rattle.as_words.specs.Prefix.{IsPrefix};
 ghost use Rattle.as_base.specs.Range.{InRange};
@@ -8,7 +8,7 @@ ghost use Rattle.as_base.specs.declared.message.Msg.{Msg};
 ghost use Rattle.views.specs.IsView.{IsView};
 ghost use Rattle.views.specs.Message.{after, Follows};
 ghost use Rattle.views.specs.Query.{Query};
-ghost use Rattle.views.specs.Rows.{due_to};
+ghost use Rattle.views.specs.Rows.{has_passed, rows_of};
 ghost use Rattle.session.specs.Answers.{answers, answer_to};
 ghost use Rattle.session.specs.Book.{book, numbers};
 ghost use Rattle.session.specs.Holders.{queries_of, holders, slots_of};
@@ -61,9 +61,9 @@ pub fn only_marks_and_ends_print()
         prints c h x ≡ false → text_of c (h ++ x ∷ []) n ≡ text_of c h n }
 {}
 
-/// A record that is passed stays passed, and its row stays as it is: each row that was due to a query is due after any
-/// item, in its place, and new rows come after all of them.
-pub fn passed_rows_stay()
-    ensures { (c : Config) (h : List Item) (x : Item) (n : ℕ) → AllByRecursion InRange h → InRange x →
-        IsPrefix (due_to (view c h) n) (due_to (view c (h ++ x ∷ [])) n) }
+/// A window that the watermark of a query has passed stays passed after any item, and its rows stay as they are.
+pub fn passed_windows_stay()
+    ensures { (c : Config) (h : List Item) (x : Item) (n k : ℕ) → AllByRecursion InRange h → InRange x →
+        has_passed (view c h) n k ≡ true → (has_passed (view c (h ++ x ∷ [])) n k ≡ true)
+        × (rows_of (view c (h ++ x ∷ [])) n k ≡ rows_of (view c h) n k) }
 {}

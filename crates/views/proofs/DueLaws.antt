@@ -1,154 +1,181 @@
--- What each message makes due: a watermark more rows, any other message none.
-use Rattle.std.proofs.Common.{◌≡◌, ℕ, ◌^◌, ◌≤◌, ◌<◌, ◌&&◌, nat_lt, nat_le, eqb, Bool, true, false, cond, List, [], ◌∷◌, ◌++◌, map, get_or, refl, sym, ap, ap₂, subst, ◌∙◌, append-nil}
-use Rattle.std.specs.List.{filter, AllByRecursion}
-use Rattle.std.proofs.lemmas.Bool.{and_parts, and_left, and_right, lt-ltb, lt-leb, eqb-true}
+-- What each message makes due: a watermark the rows of the windows that it passes, any other message none.
+use Rattle.std.proofs.Common.{◌≡◌, inl, inr, ℕ, ◌^◌, ◌≤◌, ◌<◌, ◌&&◌, eqb, Bool, true, false, true≢false, not, cond, List, [], ◌∷◌, ◌++◌, map, refl, sym, ap, subst, ◌∙◌, append-nil, arith}
+use Rattle.std.specs.List.{filter, flat_map, list_any, AllByRecursion}
+use Rattle.std.proofs.lemmas.Bool.{cases_lt, and_parts, and_from, false_from_ne_true, or_left}
 use Rattle.std.proofs.lemmas.Grind.{flat_map-append}
-use Rattle.std.proofs.lemmas.List.Folds.{flat_map-map}
+use Rattle.std.proofs.lemmas.List.Folds.{list_any-append}
 use Rattle.as_base.specs.declared.item.Given.{Given}
 use Rattle.as_base.specs.declared.item.Record.{Record}
 use Rattle.as_base.specs.declared.message.Change.TheVariants.{Opened, Closed}
 use Rattle.as_base.specs.declared.message.Msg.{Msg}
 use Rattle.as_base.specs.declared.message.Msg.TheVariants as msg
+use Rattle.as_base.specs.declared.query.Kind.{Kind}
+use Rattle.as_base.specs.declared.query.Kind.TheVariants.{Select, Sum, Count, Join}
 use Rattle.as_base.specs.declared.query.Plan.{Plan}
 use Rattle.as_base.specs.declared.row.Row.{Row}
-use Rattle.as_base.specs.declared.stream.StreamId.{StreamId}
-use Rattle.as_base.specs.Stream.{place_of}
-use Rattle.as_base.specs.Query.{holds_all}
+use Rattle.as_base.specs.Windows.{in_window}
 use Rattle.views.specs.Query.{Query, opened, is_live, closed}
-use Rattle.views.specs.View.{View, watermark_of, is_of, given_on}
-use Rattle.views.specs.Order.{InOrder}
-use Rattle.views.specs.Rows.{due_rows, due_to}
+use Rattle.views.specs.View.{View, is_mine}
+use Rattle.views.specs.Passed.{windows_with, given_to, within, windows_of, is_passed, passed_windows}
+use Rattle.views.specs.Rows.{rows_as, rows, due_rows, due_to, has_passed, rows_of}
 use Rattle.views.specs.Message.{after, RecordFollows, MarksFollow, ChangeFollows, Follows}
 use Rattle.views.specs.IsView.{IsQuery, IsView}
-use Rattle.views.proofs.ListLaws.{All-by, All-both, All-filter, cond_same, flat_map-same, filter-same, filter-none}
-use Rattle.views.proofs.NumberLaws.{of_number, of_number-both}
-use Rattle.views.proofs.ViewLaws.{ordered-push}
-use Rattle.views.proofs.RowLaws.{picks, below, rows, rows_between, due-is, due-later, given_on-push, below-push, All-given}
+use Rattle.views.proofs.ListLaws.{All-by, All-every, All-passed, flat_map-same, filter-same, list_any-weaker, list_any-map}
+use Rattle.views.proofs.RisingLaws.{filter-later}
+use Rattle.views.proofs.WindowLaws.{Rises-windows, filter-windows-push, within-push}
+use Rattle.views.proofs.NumberLaws.{of_number, of_number-both, of_number-same, of_number-where, of_number-opened, of_number-closed, each-numbered, ended, closed-number}
+use Rattle.views.proofs.GivenLaws.{given_to-record, given_to-ended, given_to-opened, lasts-live}
+use Rattle.views.proofs.PassedLaws.{passed-earlier, passed-advance, passed-record, passed-ended, passed-closed}
 
--- a record of a stream is not below its watermark
-pub at_mark : (v : View) (r : Record) (s : StreamId) → RecordFollows v r → is_of s r ≡ true → watermark_of v s ≤ r.given.time
-at_mark v r s f is = subst (λ n. get_or v.marks n 0 ≤ r.given.time) (eqb-true (place_of r.given.stream) (place_of s) is) f.mark
+-- the rows that a plan makes of these records in window k
+abbrev pub rows_with : Plan → List Given → ℕ → List Row
+rows_with p gs k = rows_as p.kind p k (within p.win k gs)
+
+pub rows_with-none : (p : Plan) (k : ℕ) → rows_with p [] k ≡ []
+rows_with-none p k = go p.kind
+  where
+    go : (kind : Kind) → rows_as kind p k [] ≡ []
+    go Select = refl
+    go (Sum c) = refl
+    go Count = refl
+    go Join = refl
+
+-- ---- a record
+
+-- a passed window has the same rows as before
+pub rows-record : (v : View) (r : Record) (q : Query) (k : ℕ) → RecordFollows v r → is_passed v q k ≡ true → rows (after v (msg.Rec r)) q k ≡ rows v q k
+rows-record v r q k f passed =
+    ap (rows_as q.plan.kind q.plan k)
+    (ap (within q.plan.win k) (given_to-record v r q q.plan.left)
+    ∙ within-push q.plan.win k (given_to v q q.plan.left) r.given (is_mine q q.plan.left r)
+    (λ own. false_from_ne_true (in_window q.plan.win k r.given.time) (λ inside. true≢false (sym passed ∙ passed-record v r q k f own inside))))
 
 -- of each query, a record makes no row due
-pub due-record : (v : View) (r : Record) (q : Query) → RecordFollows v r → q.plan.right ≡ q.plan.left
-    → InOrder (filter (is_of q.plan.left) v.records) → InOrder (filter (is_of q.plan.left) (after v (msg.Rec r)).records)
-    → due_rows (after v (msg.Rec r)) q ≡ due_rows v q
-due-record v r q f one ordered later =
-    due-is (after v (msg.Rec r)) q one later
-    ∙ ap (λ l. rows (filter (picks q) l)) (ap (below (watermark_of v q.plan.left)) (given_on-push q.plan.left v.records r)
-    ∙ below-push (watermark_of v q.plan.left) (given_on v q.plan.left) r.given (is_of q.plan.left r) (at_mark v r q.plan.left f))
-    ∙ sym (due-is v q one ordered)
+pub due-record : (v : View) (r : Record) (q : Query) → IsQuery q → RecordFollows v r → due_rows (after v (msg.Rec r)) q ≡ due_rows v q
+due-record v r q made f =
+    ap (λ gs. flat_map (rows (after v (msg.Rec r)) q) (filter (is_passed v q) (windows_with q.plan.win gs))) (given_to-record v r q q.plan.left)
+    ∙ ap (flat_map (rows (after v (msg.Rec r)) q)) (filter-windows-push (is_passed v q) q.plan.win (given_to v q q.plan.left) r.given (is_mine q q.plan.left r) (made.fits).0 (λ own k inside. passed-record v r q k f own inside))
+    ∙ flat_map-same (rows (after v (msg.Rec r)) q) (rows v q) (passed_windows v q)
+    (All-by (λ k. is_passed v q k ≡ true) (λ k. rows (after v (msg.Rec r)) q k ≡ rows v q k) (λ k passed. rows-record v r q k f passed) (passed_windows v q) (All-passed (is_passed v q) (windows_of v q)))
 
--- a watermark makes the rows between due
-pub due-advance : (v : View) (wm : List ℕ) (q : Query) → MarksFollow v wm → q.plan.right ≡ q.plan.left → InOrder (filter (is_of q.plan.left) v.records)
-    → due_rows (after v (msg.Advance wm)) q ≡ due_rows v q ++ rows_between v (get_or wm (place_of q.plan.left) 0) q
-due-advance v wm q f one ordered =
-    due-is (after v (msg.Advance wm)) q one ordered
-    ∙ due-later v (get_or wm (place_of q.plan.left) 0) q ordered (f.up q.plan.left)
-    ∙ ap (λ l. l ++ rows_between v (get_or wm (place_of q.plan.left) 0) q) (sym (due-is v q one ordered))
+-- ---- watermarks
 
-picks-closed : (n at : ℕ) (q : Query) (g : Given) → IsQuery q → is_live n q ≡ true → g.time < 2 ^ 62 → g.time < at
-    → picks (record { n = q.n; plan = q.plan; from = q.from; to = at; live = false }) g ≡ picks q g
-picks-closed n at q g made live timed before =
-    let lasts = made.lasts (and_parts (eqb q.n n) q.live live).1 in
-    ap (λ b. eqb (place_of g.stream) (place_of q.plan.left) && nat_le q.from g.time && b && holds_all q.plan.left_bounds g)
-    (lt-ltb g.time at before ∙ sym (ap (nat_lt g.time) lasts ∙ lt-ltb g.time (2 ^ 62) timed))
+-- the windows of a query that watermarks pass, and that were not passed before
+abbrev pub windows_between : View → List ℕ → Query → List ℕ
+windows_between v marks q = filter (λ k. is_passed (after v (msg.Advance marks)) q k && not (is_passed v q k)) (windows_of v q)
 
--- a query that ends after a record picks it as before
-pub picks-ended : (n at : ℕ) (q : Query) (g : Given) → IsQuery q → g.time < 2 ^ 62 → g.time < at → picks (closed n at q) g ≡ picks q g
-picks-ended n at q g made timed before = go (is_live n q) refl
+-- what watermarks make due to a query
+abbrev pub rows_between : View → List ℕ → Query → List Row
+rows_between v marks q = flat_map (rows v q) (windows_between v marks q)
+
+pub passed-between : (v : View) (marks : List ℕ) (q : Query) → MarksFollow v marks → passed_windows (after v (msg.Advance marks)) q ≡ passed_windows v q ++ windows_between v marks q
+passed-between v marks q f =
+    filter-later (is_passed v q) (is_passed (after v (msg.Advance marks)) q) (passed-earlier v q) (λ k passed. passed-advance v marks q k f passed) (windows_of v q)
+    (Rises-windows q.plan.win (given_to v q q.plan.left))
+
+-- watermarks make the rows of the windows between due
+pub due-advance : (v : View) (marks : List ℕ) (q : Query) → MarksFollow v marks → due_rows (after v (msg.Advance marks)) q ≡ due_rows v q ++ rows_between v marks q
+due-advance v marks q f = ap (flat_map (rows v q)) (passed-between v marks q f) ∙ flat_map-append (rows v q) (passed_windows v q) (windows_between v marks q)
+
+-- ---- a query that is closed
+
+-- a query that ends after all records has the same rows in each window
+pub rows-closed : (v : View) (n slot at : ℕ) (q : Query) (k : ℕ) → IsQuery q → ChangeFollows v at → AllByRecursion (λ (r : Record). r.given.time < 2 ^ 62) v.records
+    → rows (after v (msg.Change (Closed n slot at))) (closed n at q) k ≡ rows v q k
+rows-closed v n slot at q k made f timed = go (is_live n q) refl
   where
-    go : (b : Bool) → is_live n q ≡ b → picks (cond b (record { n = q.n; plan = q.plan; from = q.from; to = at; live = false }) q) g ≡ picks q g
-    go true e = picks-closed n at q g made e timed before
+    go : (b : Bool) → is_live n q ≡ b → rows (after v (msg.Change (Closed n slot at))) (cond b (ended at q) q) k ≡ rows v q k
+    go true e = ap (λ gs. rows_with q.plan gs k) (given_to-ended v at q q.plan.left (lasts-live n q made e) timed f.records)
     go false e = refl
 
--- a query that ends after all records has the same rows as before
-pub due-closed : (v : View) (n slot at : ℕ) (q : Query) → IsQuery q → ChangeFollows v at → AllByRecursion (λ (r : Record). r.given.time < 2 ^ 62) v.records → InOrder (filter (is_of q.plan.left) v.records)
+no_records : (at : ℕ) (rs : List Record) → at ≤ 0 → AllByRecursion (λ (r : Record). r.given.time < at) rs → rs ≡ []
+no_records at [] none h = refl
+no_records at (r ∷ rs) none h = let before = h.0 in absurd (omega (arith, none, before))
+
+-- of the windows that hold a record of its own, such a query has passed the same ones
+windows-ended : (v : View) (at : ℕ) (q : Query) → q.to ≡ 2 ^ 62 → ChangeFollows v at → AllByRecursion (λ k. is_passed v (ended at q) k ≡ is_passed v q k) (windows_of v q)
+windows-ended v at q lasts f = elim (cases_lt 0 at) [
+  | inl begun ↦ All-every (λ k. is_passed v (ended at q) k ≡ is_passed v q k) (λ k. passed-ended v at q k lasts f begun) (windows_of v q)
+  | inr none ↦ subst (λ (rs : List Record). AllByRecursion (λ k. is_passed v (ended at q) k ≡ is_passed v q k) (windows_with q.plan.win (map (λ (r : Record). r.given) (filter (is_mine q q.plan.left) rs)))) (sym (no_records at v.records none f.records)) tt
+]
+
+-- a query that ends after all records has the same rows due
+pub due-closed : (v : View) (n slot at : ℕ) (q : Query) → IsQuery q → ChangeFollows v at → AllByRecursion (λ (r : Record). r.given.time < 2 ^ 62) v.records
     → due_rows (after v (msg.Change (Closed n slot at))) (closed n at q) ≡ due_rows v q
-due-closed v n slot at q made f timed ordered = go (is_live n q) refl
+due-closed v n slot at q made f timed = go (is_live n q) refl
   where
-    ended : Query
-    ended = record { n = q.n; plan = q.plan; from = q.from; to = at; live = false }
-
-    past : AllByRecursion (λ (g : Given). (g.time < 2 ^ 62) × (g.time < at)) (given_on v q.plan.left)
-    past = All-given (λ (g : Given). (g.time < 2 ^ 62) × (g.time < at)) v q.plan.left (All-both (λ (r : Record). r.given.time < 2 ^ 62) (λ (r : Record). r.given.time < at) v.records timed f.records)
-
-    go : (b : Bool) → is_live n q ≡ b → due_rows (after v (msg.Change (Closed n slot at))) (cond b (record { n = q.n; plan = q.plan; from = q.from; to = at; live = false }) q) ≡ due_rows v q
-    go false e = refl
+    go : (b : Bool) → is_live n q ≡ b → due_rows (after v (msg.Change (Closed n slot at))) (cond b (ended at q) q) ≡ due_rows v q
     go true e =
-        let w = watermark_of v q.plan.left in
-        due-is (after v (msg.Change (Closed n slot at))) ended made.one ordered
-        ∙ ap rows (filter-same (picks ended) (picks q) (below w (given_on v q.plan.left))
-        (All-by (λ (g : Given). (g.time < 2 ^ 62) × (g.time < at)) (λ g. picks ended g ≡ picks q g) (λ g p. picks-closed n at q g made e p.0 p.1) (below w (given_on v q.plan.left))
-        (All-filter (λ (g : Given). (g.time < 2 ^ 62) × (g.time < at)) (λ (g : Given). nat_lt g.time w) (given_on v q.plan.left) past)))
-        ∙ sym (due-is v q made.one ordered)
+        let lasts = lasts-live n q made e in
+        ap (λ gs. flat_map (rows_with q.plan gs) (filter (is_passed v (ended at q)) (windows_with q.plan.win gs))) (given_to-ended v at q q.plan.left lasts timed f.records)
+        ∙ ap (flat_map (rows v q)) (filter-same (is_passed v (ended at q)) (is_passed v q) (windows_of v q) (windows-ended v at q lasts f))
+    go false e = refl
 
--- a query picks no record before it begins
-pub picks-early : (q : Query) (g : Given) → g.time < q.from → picks q g ≡ false
-picks-early q g low =
-    let s = eqb (place_of g.stream) (place_of q.plan.left) in
-    let a = nat_le q.from g.time in
-    let b = nat_lt g.time q.to in
-    and_left (s && a && b) (holds_all q.plan.left_bounds g) (and_left (s && a) b (and_right s a (lt-leb q.from g.time low)))
+-- ---- a query that is opened
 
--- a query that is opened after all records has none of them
-pub due-opened : (v : View) (n slot at : ℕ) (plan : Plan) → ChangeFollows v at → plan.right ≡ plan.left → InOrder (filter (is_of plan.left) v.records)
-    → due_rows (after v (msg.Change (Opened n slot at plan))) (opened n plan at) ≡ []
-due-opened v n slot at plan f one ordered =
-    let w = watermark_of v plan.left in
-    due-is (after v (msg.Change (Opened n slot at plan))) (opened n plan at) one ordered
-    ∙ ap rows (filter-none (picks (opened n plan at)) (below w (given_on v plan.left))
-    (All-by (λ (g : Given). g.time < at) (λ g. picks (opened n plan at) g ≡ false) (λ g low. picks-early (opened n plan at) g low) (below w (given_on v plan.left))
-    (All-filter (λ (g : Given). g.time < at) (λ (g : Given). nat_lt g.time w) (given_on v plan.left) (All-given (λ (g : Given). g.time < at) v plan.left f.records))))
+-- a query that is opened after all records has no rows
+pub rows-opened : (v : View) (n slot at : ℕ) (plan : Plan) (k : ℕ) → ChangeFollows v at → rows (after v (msg.Change (Opened n slot at plan))) (opened n plan at) k ≡ []
+rows-opened v n slot at plan k f = ap (λ gs. rows_with plan gs k) (given_to-opened v n slot at plan plan.left f) ∙ rows_with-none plan k
+
+-- and none that are due
+pub due-opened : (v : View) (n slot at : ℕ) (plan : Plan) → ChangeFollows v at → due_rows (after v (msg.Change (Opened n slot at plan))) (opened n plan at) ≡ []
+due-opened v n slot at plan f =
+    ap (λ gs. flat_map (rows_with plan gs) (filter (is_passed (after v (msg.Change (Opened n slot at plan))) (opened n plan at)) (windows_with plan.win gs))) (given_to-opened v n slot at plan plan.left f)
 
 -- ---- the rows that are due to query n
 
-closed-number : (n at : ℕ) (q : Query) → (closed n at q).n ≡ q.n
-closed-number n at q = go (is_live n q)
-  where
-    go : (b : Bool) → (cond b (record { n = q.n; plan = q.plan; from = q.from; to = at; live = false }) q).n ≡ q.n
-    go true = refl
-    go false = refl
-
--- what is the same for each query is the same for query n
-pub of_number-same : {X : Type 0} (n : ℕ) (f g : Query → List X) (qs : List Query) → AllByRecursion (λ q. f q ≡ g q) qs → of_number n f qs ≡ of_number n g qs
-of_number-same n f g qs h =
-    flat_map-same (λ (q : Query). cond (eqb q.n n) (f q) []) (λ (q : Query). cond (eqb q.n n) (g q) []) qs
-    (All-by (λ q. f q ≡ g q) (λ (q : Query). cond (eqb q.n n) (f q) [] ≡ cond (eqb q.n n) (g q) []) (λ q e. ap (λ l. cond (eqb q.n n) l []) e) qs h)
-
-pub of_number-opened : {X : Type 0} (n : ℕ) (f : Query → List X) (qs : List Query) (q : Query) → f q ≡ [] → of_number n f (qs ++ q ∷ []) ≡ of_number n f qs
-of_number-opened n f qs q none =
-    flat_map-append (λ (q : Query). cond (eqb q.n n) (f q) []) qs (q ∷ [])
-    ∙ ap (λ l. of_number n f qs ++ (cond (eqb q.n n) l [] ++ [])) none
-    ∙ ap (λ l. of_number n f qs ++ (l ++ [])) (cond_same (eqb q.n n) [])
-    ∙ append-nil (of_number n f qs)
-
-pub of_number-closed : {X : Type 0} (m n at : ℕ) (f g : Query → List X) (qs : List Query) → AllByRecursion (λ q. f (closed n at q) ≡ g q) qs → of_number m f (map (closed n at) qs) ≡ of_number m g qs
-of_number-closed m n at f g qs h =
-    flat_map-map (λ (q : Query). cond (eqb q.n m) (f q) []) (closed n at) qs
-    ∙ flat_map-same (λ (q : Query). cond (eqb (closed n at q).n m) (f (closed n at q)) []) (λ (q : Query). cond (eqb q.n m) (g q) []) qs
-    (All-by (λ q. f (closed n at q) ≡ g q) (λ (q : Query). cond (eqb (closed n at q).n m) (f (closed n at q)) [] ≡ cond (eqb q.n m) (g q) [])
-    (λ q e. ap₂ (λ k l. cond (eqb k m) l []) (closed-number n at q) e) qs h)
-
 -- what a message makes due to query n
 abbrev pub due_by : View → Msg → ℕ → List Row
-due_by v (msg.Advance wm) n = of_number n (λ (q : Query). rows_between v (get_or wm (place_of q.plan.left) 0) q) v.queries
+due_by v (msg.Advance marks) n = of_number n (rows_between v marks) v.queries
 due_by v (msg.Rec r) n = []
 due_by v (msg.Change change) n = []
 
 pub due_to-after : (v : View) (m : Msg) (n : ℕ) → IsView v → Follows v m → due_to (after v m) n ≡ due_to v n ++ due_by v m n
 due_to-after v (msg.Rec r) n is f =
     of_number-same n (due_rows (after v (msg.Rec r))) (due_rows v) v.queries
-    (All-by IsQuery (λ q. due_rows (after v (msg.Rec r)) q ≡ due_rows v q) (λ q made. due-record v r q f made.one (is.ordered q.plan.left) (ordered-push v r is f q.plan.left)) v.queries is.made)
+    (All-by IsQuery (λ q. due_rows (after v (msg.Rec r)) q ≡ due_rows v q) (λ q made. due-record v r q made f) v.queries is.made)
     ∙ sym (append-nil (due_to v n))
-due_to-after v (msg.Advance wm) n is f =
-    of_number-same n (due_rows (after v (msg.Advance wm))) (λ q. due_rows v q ++ rows_between v (get_or wm (place_of q.plan.left) 0) q) v.queries
-    (All-by IsQuery (λ q. due_rows (after v (msg.Advance wm)) q ≡ due_rows v q ++ rows_between v (get_or wm (place_of q.plan.left) 0) q) (λ q made. due-advance v wm q f made.one (is.ordered q.plan.left)) v.queries is.made)
-    ∙ of_number-both n (due_rows v) (λ q. rows_between v (get_or wm (place_of q.plan.left) 0) q) 1 v.queries is.numbered
+due_to-after v (msg.Advance marks) n is f =
+    of_number-same n (due_rows (after v (msg.Advance marks))) (λ q. due_rows v q ++ rows_between v marks q) v.queries
+    (All-every (λ q. due_rows (after v (msg.Advance marks)) q ≡ due_rows v q ++ rows_between v marks q) (λ q. due-advance v marks q f) v.queries)
+    ∙ of_number-both n (due_rows v) (rows_between v marks) 1 v.queries is.numbered
 due_to-after v (msg.Change (Opened m slot at plan)) n is f =
-    of_number-opened n (due_rows (after v (msg.Change (Opened m slot at plan)))) v.queries (opened m plan at) (due-opened v m slot at plan f.0 f.2 (is.ordered plan.left))
+    of_number-opened n (due_rows (after v (msg.Change (Opened m slot at plan)))) v.queries (opened m plan at) (due-opened v m slot at plan f.0)
     ∙ sym (append-nil (due_to v n))
 due_to-after v (msg.Change (Closed m slot at)) n is f =
     of_number-closed n m at (due_rows (after v (msg.Change (Closed m slot at)))) (due_rows v) v.queries
-    (All-by IsQuery (λ q. due_rows (after v (msg.Change (Closed m slot at))) (closed m at q) ≡ due_rows v q) (λ q made. due-closed v m slot at q made f.0 is.timed (is.ordered q.plan.left)) v.queries is.made)
+    (All-by IsQuery (λ q. due_rows (after v (msg.Change (Closed m slot at))) (closed m at q) ≡ due_rows v q) (λ q made. due-closed v m slot at q made f.0 is.timed) v.queries is.made)
     ∙ sym (append-nil (due_to v n))
+
+-- ---- passed windows of query n
+
+-- a window that query n has passed stays passed
+pub has_passed-after : (v : View) (m : Msg) (n k : ℕ) → IsView v → Follows v m → has_passed v n k ≡ true → has_passed (after v m) n k ≡ true
+has_passed-after v (msg.Rec r) n k is f passed = passed
+has_passed-after v (msg.Advance marks) n k is f passed =
+    list_any-weaker (λ (q : Query). eqb q.n n && is_passed v q k) (λ (q : Query). eqb q.n n && is_passed (after v (msg.Advance marks)) q k) v.queries
+    (All-every (λ (q : Query). (eqb q.n n && is_passed v q k) ≡ true → (eqb q.n n && is_passed (after v (msg.Advance marks)) q k) ≡ true)
+    (λ q both. let parts = and_parts (eqb q.n n) (is_passed v q k) both in and_from (eqb q.n n) (is_passed (after v (msg.Advance marks)) q k) parts.0 (passed-advance v marks q k f parts.1)) v.queries) passed
+has_passed-after v (msg.Change (Opened m slot at plan)) n k is f passed =
+    list_any-append (λ (q : Query). eqb q.n n && is_passed v q k) v.queries (opened m plan at ∷ [])
+    ∙ or_left (list_any (λ (q : Query). eqb q.n n && is_passed v q k) v.queries) (list_any (λ (q : Query). eqb q.n n && is_passed v q k) (opened m plan at ∷ [])) passed
+has_passed-after v (msg.Change (Closed m slot at)) n k is f passed =
+    list_any-map (λ (q : Query). eqb q.n n && is_passed v q k) (closed m at) v.queries
+    ∙ list_any-weaker (λ (q : Query). eqb q.n n && is_passed v q k) (λ (q : Query). eqb (closed m at q).n n && is_passed v (closed m at q) k) v.queries
+    (All-by IsQuery (λ (q : Query). (eqb q.n n && is_passed v q k) ≡ true → (eqb (closed m at q).n n && is_passed v (closed m at q) k) ≡ true)
+    (λ q made both.
+    let parts = and_parts (eqb q.n n) (is_passed v q k) both in
+    and_from (eqb (closed m at q).n n) (is_passed v (closed m at q) k) (ap (λ i. eqb i n) (closed-number m at q) ∙ parts.0) (passed-closed v m slot at q k made f.0 parts.1)) v.queries is.made) passed
+
+-- and has the same rows
+pub rows_of-after : (v : View) (m : Msg) (n k : ℕ) → IsView v → Follows v m → has_passed v n k ≡ true → rows_of (after v m) n k ≡ rows_of v n k
+rows_of-after v (msg.Rec r) n k is f passed =
+    of_number-where n (λ q. rows (after v (msg.Rec r)) q k) (λ q. rows v q k) v.queries
+    (All-by (λ (q : Query). eqb q.n n ≡ true → is_passed v q k ≡ true) (λ (q : Query). eqb q.n n ≡ true → rows (after v (msg.Rec r)) q k ≡ rows v q k)
+    (λ q it e. rows-record v r q k f (it e)) v.queries (each-numbered (λ q. is_passed v q k) n 1 v.queries is.numbered passed))
+rows_of-after v (msg.Advance marks) n k is f passed = refl
+rows_of-after v (msg.Change (Opened m slot at plan)) n k is f passed =
+    of_number-opened n (λ q. rows (after v (msg.Change (Opened m slot at plan))) q k) v.queries (opened m plan at) (rows-opened v m slot at plan k f.0)
+rows_of-after v (msg.Change (Closed m slot at)) n k is f passed =
+    of_number-closed n m at (λ q. rows (after v (msg.Change (Closed m slot at))) q k) (λ q. rows v q k) v.queries
+    (All-by IsQuery (λ q. rows (after v (msg.Change (Closed m slot at))) (closed m at q) k ≡ rows v q k) (λ q made. rows-closed v m slot at q k made f.0 is.timed) v.queries is.made)

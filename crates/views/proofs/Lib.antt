@@ -1,6 +1,10 @@
 pub mod ListLaws
+pub mod RisingLaws
+pub mod GroupLaws
+pub mod WindowLaws
 pub mod NumberLaws
 pub mod OrderLaws
-pub mod RowLaws
 pub mod ViewLaws
+pub mod GivenLaws
+pub mod PassedLaws
 pub mod DueLaws

@@ -1,6 +1,8 @@
 -- Facts of each element of a list, by recursion, and lists that are filtered or made of lists.
-use Rattle.std.proofs.Common.{◌≡◌, Bool, true, false, ◌&&◌, cond, List, [], ◌∷◌, ◌++◌, map, refl, sym, ap, ◌∙◌}
-use Rattle.std.specs.List.{filter, flat_map, AllByRecursion}
+use Rattle.std.proofs.Common.{◌≡◌, inl, inr, Bool, true, false, ◌&&◌, ◌||◌, cond, List, [], ◌∷◌, ◌++◌, map, refl, ap, ◌∙◌}
+use Rattle.std.specs.List.{filter, flat_map, list_any, AllByRecursion}
+use Rattle.std.proofs.lemmas.Bool.{or_cases, or_left, or_right}
+use Rattle.std.proofs.lemmas.List.Folds.{list_any-append}
 
 -- a fact of each element under a weaker one
 pub All-by : {X : Type 0} (P Q : X → Type 0) → ((x : X) → P x → Q x) → (xs : List X) → AllByRecursion P xs → AllByRecursion Q xs
@@ -103,14 +105,23 @@ and_within false false h = refl
 pub filter-within : {X : Type 0} (p q : X → Bool) (xs : List X) → ((x : X) → p x ≡ true → q x ≡ true) → filter p (filter q xs) ≡ filter p xs
 filter-within p q xs h = filter-filter p q xs ∙ filter-same (λ x. q x && p x) p xs (All-every (λ x. (q x && p x) ≡ p x) (λ x. and_within (q x) (p x) (h x)) xs)
 
-and_swap : (a b : Bool) → (a && b) ≡ (b && a)
-and_swap true true = refl
-and_swap true false = refl
-and_swap false true = refl
-and_swap false false = refl
+-- ---- tests of some element
 
-pub filter-swap : {X : Type 0} (p q : X → Bool) (xs : List X) → filter p (filter q xs) ≡ filter q (filter p xs)
-filter-swap p q xs =
-    filter-filter p q xs
-    ∙ filter-same (λ x. q x && p x) (λ x. p x && q x) xs (All-every (λ x. (q x && p x) ≡ (p x && q x)) (λ x. and_swap (q x) (p x)) xs)
-    ∙ sym (filter-filter q p xs)
+-- tests that agree on each element
+pub list_any-same : {X : Type 0} (p q : X → Bool) (xs : List X) → AllByRecursion (λ x. p x ≡ q x) xs → list_any p xs ≡ list_any q xs
+list_any-same p q [] h = refl
+list_any-same p q (x ∷ xs) h = ap (λ b. b || list_any p xs) h.0 ∙ ap (λ b. q x || b) (list_any-same p q xs h.1)
+
+-- a test that each element passes which passes another
+pub list_any-weaker : {X : Type 0} (p q : X → Bool) (xs : List X) → AllByRecursion (λ x. p x ≡ true → q x ≡ true) xs → list_any p xs ≡ true → list_any q xs ≡ true
+list_any-weaker p q [] h some = some
+list_any-weaker p q (x ∷ xs) h some =
+    elim (or_cases (p x) (list_any p xs) some) [ inl here ↦ or_left (q x) (list_any q xs) (h.0 here) | inr later ↦ or_right (q x) (list_any q xs) (list_any-weaker p q xs h.1 later) ]
+
+pub list_any-map : {X Y : Type 0} (p : Y → Bool) (f : X → Y) (xs : List X) → list_any p (map f xs) ≡ list_any (λ x. p (f x)) xs
+list_any-map p f [] = refl
+list_any-map p f (x ∷ xs) = ap (λ b. p (f x) || b) (list_any-map p f xs)
+
+pub list_any-flat_map : {X Y : Type 0} (p : Y → Bool) (f : X → List Y) (xs : List X) → list_any p (flat_map f xs) ≡ list_any (λ x. list_any p (f x)) xs
+list_any-flat_map p f [] = refl
+list_any-flat_map p f (x ∷ xs) = list_any-append p (f x) (flat_map f xs) ∙ ap (λ b. list_any p (f x) || b) (list_any-flat_map p f xs)

@@ -3,8 +3,10 @@ use Rattle.std.proofs.Common.{◌≡◌, ℕ, ◌+◌, ◌≤◌, ◌<◌, eqb, 
 use Rattle.std.specs.List.{flat_map, list_any, range_with_len, AllByRecursion}
 use Rattle.std.proofs.lemmas.Bool.{ne_eqb, eqb-true, or_cases, and_parts}
 use Rattle.std.proofs.lemmas.List.{map-append, length_push}
-use Rattle.views.specs.Query.{Query, is_live}
-use Rattle.views.proofs.ListLaws.{All-by}
+use Rattle.std.proofs.lemmas.Grind.{flat_map-append}
+use Rattle.std.proofs.lemmas.List.Folds.{flat_map-map}
+use Rattle.views.specs.Query.{Query, is_live, closed}
+use Rattle.views.proofs.ListLaws.{All-by, flat_map-same, cond_same}
 
 -- the queries are numbered one after another
 abbrev pub IsNumbered : ℕ → List Query → Type 0
@@ -68,16 +70,16 @@ numbers-from k (q ∷ qs) e =
       All-by (λ (q : Query). k + 1 ≤ q.n) (λ (q : Query). k ≤ q.n) (λ q h. omega (arith, h)) qs (numbers-from (k + 1) qs (rest-numbered k q qs e)),
     )
 
-none-lives : (n : ℕ) (qs : List Query) → AllByRecursion (λ (q : Query). n < q.n) qs → list_any (is_live n) qs ≡ false
-none-lives n [] h = refl
-none-lives n (q ∷ qs) h =
+none-numbered : (P : Query → Bool) (n : ℕ) (qs : List Query) → AllByRecursion (λ (q : Query). n < q.n) qs → list_any (λ (q : Query). eqb q.n n && P q) qs ≡ false
+none-numbered P n [] h = refl
+none-numbered P n (q ∷ qs) h =
     let above = h.0 in
-    ap (λ b. (b && q.live) || list_any (is_live n) qs) (ne_eqb q.n n (λ same. omega (arith, above, same))) ∙ none-lives n qs h.1
+    ap (λ b. (b && P q) || list_any (λ (q : Query). eqb q.n n && P q) qs) (ne_eqb q.n n (λ same. omega (arith, above, same))) ∙ none-numbered P n qs h.1
 
--- where a query of this number lives, each of this number does
-pub each-lives : (n k : ℕ) (qs : List Query) → IsNumbered k qs → list_any (is_live n) qs ≡ true → AllByRecursion (λ (q : Query). eqb q.n n ≡ true → q.live ≡ true) qs
-each-lives n k [] e some = tt
-each-lives n k (q ∷ qs) e some = elim (or_cases (is_live n q) (list_any (is_live n) qs) some) [ inl here ↦ at_first here | inr later ↦ at_later later (each-lives n (k + 1) qs (rest-numbered k q qs e) later) ]
+-- where a query of this number passes a test, each of this number does
+pub each-numbered : (P : Query → Bool) (n k : ℕ) (qs : List Query) → IsNumbered k qs → list_any (λ (q : Query). eqb q.n n && P q) qs ≡ true → AllByRecursion (λ (q : Query). eqb q.n n ≡ true → P q ≡ true) qs
+each-numbered P n k [] e some = tt
+each-numbered P n k (q ∷ qs) e some = elim (or_cases (eqb q.n n && P q) (list_any (λ (q : Query). eqb q.n n && P q) qs) some) [ inl here ↦ at_first here | inr later ↦ at_later later (each-numbered P n (k + 1) qs (rest-numbered k q qs e) later) ]
   where
     first : q.n ≡ k
     first = first-number k q qs e
@@ -85,18 +87,71 @@ each-lives n k (q ∷ qs) e some = elim (or_cases (is_live n q) (list_any (is_li
     above : AllByRecursion (λ (q : Query). k + 1 ≤ q.n) qs
     above = numbers-from (k + 1) qs (rest-numbered k q qs e)
 
-    at_first : is_live n q ≡ true → AllByRecursion (λ (q : Query). eqb q.n n ≡ true → q.live ≡ true) (q ∷ qs)
+    at_first : (eqb q.n n && P q) ≡ true → AllByRecursion (λ (q : Query). eqb q.n n ≡ true → P q ≡ true) (q ∷ qs)
     at_first here =
-        let parts = and_parts (eqb q.n n) q.live here in
+        let parts = and_parts (eqb q.n n) (P q) here in
         let same = eqb-true q.n n parts.0 in (
           λ is. parts.1,
-          All-by (λ (q : Query). k + 1 ≤ q.n) (λ (q : Query). eqb q.n n ≡ true → q.live ≡ true) (λ r h is. let other = eqb-true r.n n is in absurd (omega (arith, h, other, same, first))) qs above,
+          All-by (λ (q : Query). k + 1 ≤ q.n) (λ (q : Query). eqb q.n n ≡ true → P q ≡ true) (λ r h is. let other = eqb-true r.n n is in absurd (omega (arith, h, other, same, first))) qs above,
         )
 
-    at_later : list_any (is_live n) qs ≡ true → AllByRecursion (λ (q : Query). eqb q.n n ≡ true → q.live ≡ true) qs → AllByRecursion (λ (q : Query). eqb q.n n ≡ true → q.live ≡ true) (q ∷ qs)
+    at_later : list_any (λ (q : Query). eqb q.n n && P q) qs ≡ true → AllByRecursion (λ (q : Query). eqb q.n n ≡ true → P q ≡ true) qs → AllByRecursion (λ (q : Query). eqb q.n n ≡ true → P q ≡ true) (q ∷ qs)
     at_later later rest = (
       λ is.
           let same = eqb-true q.n n is in
-          absurd (true≢false (sym later ∙ none-lives n qs (All-by (λ (q : Query). k + 1 ≤ q.n) (λ (q : Query). n < q.n) (λ r h. omega (arith, h, same, first)) qs above))),
+          absurd (true≢false (sym later ∙ none-numbered P n qs (All-by (λ (q : Query). k + 1 ≤ q.n) (λ (q : Query). n < q.n) (λ r h. omega (arith, h, same, first)) qs above))),
       rest,
     )
+
+-- where a query of this number lives, each of this number does
+pub each-lives : (n k : ℕ) (qs : List Query) → IsNumbered k qs → list_any (is_live n) qs ≡ true → AllByRecursion (λ (q : Query). eqb q.n n ≡ true → q.live ≡ true) qs
+each-lives n k qs e some = each-numbered (λ (q : Query). q.live) n k qs e some
+
+-- ---- what is the same for the query of number n
+
+-- what is the same for each query of number n
+pub of_number-where : {X : Type 0} (n : ℕ) (f g : Query → List X) (qs : List Query) → AllByRecursion (λ (q : Query). eqb q.n n ≡ true → f q ≡ g q) qs → of_number n f qs ≡ of_number n g qs
+of_number-where n f g qs h =
+    flat_map-same (λ (q : Query). cond (eqb q.n n) (f q) []) (λ (q : Query). cond (eqb q.n n) (g q) []) qs
+    (All-by (λ (q : Query). eqb q.n n ≡ true → f q ≡ g q) (λ (q : Query). cond (eqb q.n n) (f q) [] ≡ cond (eqb q.n n) (g q) []) (λ q e. go q (eqb q.n n) refl e) qs h)
+  where
+    go : (q : Query) (b : Bool) → eqb q.n n ≡ b → (eqb q.n n ≡ true → f q ≡ g q) → cond b (f q) [] ≡ cond b (g q) []
+    go q true is e = e is
+    go q false is e = refl
+
+-- what is the same for each query
+pub of_number-same : {X : Type 0} (n : ℕ) (f g : Query → List X) (qs : List Query) → AllByRecursion (λ q. f q ≡ g q) qs → of_number n f qs ≡ of_number n g qs
+of_number-same n f g qs h = of_number-where n f g qs (All-by (λ q. f q ≡ g q) (λ (q : Query). eqb q.n n ≡ true → f q ≡ g q) (λ q e is. e) qs h)
+
+-- a query more, of which there is nothing
+pub of_number-opened : {X : Type 0} (n : ℕ) (f : Query → List X) (qs : List Query) (q : Query) → f q ≡ [] → of_number n f (qs ++ q ∷ []) ≡ of_number n f qs
+of_number-opened n f qs q none =
+    flat_map-append (λ (q : Query). cond (eqb q.n n) (f q) []) qs (q ∷ [])
+    ∙ ap (λ l. of_number n f qs ++ (cond (eqb q.n n) l [] ++ [])) none
+    ∙ ap (λ l. of_number n f qs ++ (l ++ [])) (cond_same (eqb q.n n) [])
+    ∙ append-nil (of_number n f qs)
+
+-- ---- queries that are closed
+
+-- the query, dead, whose life ends at the time
+abbrev pub ended : ℕ → Query → Query
+ended at q = record { n = q.n; plan = q.plan; from = q.from; to = at; live = false }
+
+pub closed-number : (n at : ℕ) (q : Query) → (closed n at q).n ≡ q.n
+closed-number n at q = go (is_live n q)
+  where
+    go : (b : Bool) → (cond b (ended at q) q).n ≡ q.n
+    go true = refl
+    go false = refl
+
+pub closed-numbers : (n at : ℕ) (qs : List Query) → map (λ (q : Query). q.n) (map (closed n at) qs) ≡ map (λ (q : Query). q.n) qs
+closed-numbers n at [] = refl
+closed-numbers n at (q ∷ qs) = ap₂ (λ k l. k ∷ l) (closed-number n at q) (closed-numbers n at qs)
+
+-- what is the same for each query when one is closed
+pub of_number-closed : {X : Type 0} (m n at : ℕ) (f g : Query → List X) (qs : List Query) → AllByRecursion (λ q. f (closed n at q) ≡ g q) qs → of_number m f (map (closed n at) qs) ≡ of_number m g qs
+of_number-closed m n at f g qs h =
+    flat_map-map (λ (q : Query). cond (eqb q.n m) (f q) []) (closed n at) qs
+    ∙ flat_map-same (λ (q : Query). cond (eqb (closed n at q).n m) (f (closed n at q)) []) (λ (q : Query). cond (eqb q.n m) (g q) []) qs
+    (All-by (λ q. f (closed n at q) ≡ g q) (λ (q : Query). cond (eqb (closed n at q).n m) (f (closed n at q)) [] ≡ cond (eqb q.n m) (g q) [])
+    (λ q e. ap₂ (λ k l. cond (eqb k m) l []) (closed-number n at q) e) qs h)

@@ -1,5 +1,5 @@
 -- What messages make of a view is a view.
-use Rattle.std.proofs.Common.{◌≡◌, ℕ, ◌^◌, ◌≤◌, ◌<◌, ◌&&◌, ◌||◌, nat_lt, eqb, Bool, true, false, cond, List, [], ◌∷◌, ◌++◌, map, refl, sym, ap, subst, ◌∙◌, append-nil, arith}
+use Rattle.std.proofs.Common.{◌≡◌, ℕ, ◌^◌, ◌≤◌, ◌<◌, ◌&&◌, ◌||◌, nat_lt, eqb, Bool, true, false, cond, List, [], ◌∷◌, ◌++◌, refl, sym, ap, subst, ◌∙◌, append-nil, arith}
 use Rattle.std.specs.List.{filter, range_with_len, AllByRecursion}
 use Rattle.std.proofs.lemmas.Bool.{eqb-true}
 use Rattle.std.proofs.lemmas.Bool.Decides.{nat_tests}
@@ -18,8 +18,8 @@ use Rattle.views.specs.Order.{comes_before, InOrder}
 use Rattle.views.specs.Message.{after, RecordFollows, Follows}
 use Rattle.views.specs.IsView.{IsQuery, IsView, first_view}
 use Rattle.views.proofs.ListLaws.{All-by, All-push, All-both, All-filter, All-map, All-passed}
-use Rattle.views.proofs.NumberLaws.{IsNumbered-push}
-use Rattle.views.proofs.RowLaws.{InOrder-push}
+use Rattle.views.proofs.NumberLaws.{IsNumbered-push, ended, closed-numbers}
+use Rattle.views.proofs.OrderLaws.{InOrder-push}
 
 comes : (a b m n : ℕ) → a ≤ b → m < n → (nat_lt a b || (eqb a b && nat_lt m n)) ≡ true
 comes a b m n h k = grind (arith, nat_tests)
@@ -52,18 +52,9 @@ ordered-push v r is f s = subst InOrder (sym (filter-append (is_of s) v.records 
 closed-made : (n at : ℕ) (q : Query) → at ≤ 2 ^ 62 → IsQuery q → IsQuery (closed n at q)
 closed-made n at q most made = go (is_live n q)
   where
-    go : (b : Bool) → IsQuery (cond b (record { n = q.n; plan = q.plan; from = q.from; to = at; live = false }) q)
-    go true = record { begins = made.begins; ends = most; lasts = λ h. cc; one = made.one }
+    go : (b : Bool) → IsQuery (cond b (ended at q) q)
+    go true = record { begins = made.begins; ends = most; lasts = λ h. cc; canonical = made.canonical; fits = made.fits; one = made.one }
     go false = made
-
-closed-numbers : (n at : ℕ) (qs : List Query) → map (λ (q : Query). q.n) (map (closed n at) qs) ≡ map (λ (q : Query). q.n) qs
-closed-numbers n at [] = refl
-closed-numbers n at (q ∷ qs) = go (is_live n q) (closed-numbers n at qs)
-  where
-    go : (b : Bool) → map (λ (q : Query). q.n) (map (closed n at) qs) ≡ map (λ (q : Query). q.n) qs
-        → (cond b (record { n = q.n; plan = q.plan; from = q.from; to = at; live = false }) q).n ∷ map (λ (q : Query). q.n) (map (closed n at) qs) ≡ q.n ∷ map (λ (q : Query). q.n) qs
-    go true e = ap (λ l. q.n ∷ l) e
-    go false e = ap (λ l. q.n ∷ l) e
 
 pub IsView-first : IsView first_view
 IsView-first = record {
@@ -102,7 +93,7 @@ IsView-after v (msg.Change (Opened n slot at plan)) is f = record {
   four = is.four;
   most = is.most;
   numbered = IsNumbered-push 1 v.queries (opened n plan at) is.numbered (let e = f.1 in omega (arith, e));
-  made = All-push IsQuery v.queries (opened n plan at) is.made (record { begins = f.0.most; ends = omega arith; lasts = λ h. refl; one = f.2 });
+  made = All-push IsQuery v.queries (opened n plan at) is.made (record { begins = f.0.most; ends = omega arith; lasts = λ h. refl; canonical = (f.2).canonical; fits = (f.2).fits; one = (f.2).one });
   timed = is.timed;
   ordered = is.ordered;
 }

@@ -1,9 +1,12 @@
 pub mod Query
 pub mod View
 pub mod Order
+pub mod Passed
+pub mod Groups
 pub mod Rows
 pub mod Message
 pub mod IsView
+pub mod Worked
 pub use Rattle.as_words.specs.Prefix
 pub use Rattle.as_base.specs.declared.item.Record
 pub use Rattle.as_base.specs.declared.message.Change
@@ -11,3 +14,5 @@ pub use Rattle.as_base.specs.declared.message.Msg
 pub use Rattle.as_base.specs.declared.query.Plan
 pub use Rattle.as_base.specs.declared.row.Row
 pub use Rattle.as_base.specs.declared.stream.StreamId
+pub use Rattle.as_base.specs.Canonical
+pub use Rattle.as_base.specs.Windows

@@ -8,6 +8,8 @@ use Rattle.as_base.specs.declared.message.Msg.{Msg}
 use Rattle.as_base.specs.declared.message.Msg.TheVariants as msg
 use Rattle.as_base.specs.declared.stream.StreamId.{StreamId}
 use Rattle.as_base.specs.Stream.{place_of}
+use Rattle.as_base.specs.Canonical.{IsCanonical, FitsPlan}
+use Rattle.as_base.specs.declared.query.Plan.{Plan}
 use Rattle.views.specs.Query.{Query, opened, is_live, closed}
 use Rattle.views.specs.View.{View, watermark_of}
 
@@ -35,15 +37,21 @@ pub record MarksFollow (v : View) (marks : List ℕ) : Type 0 where
   pub up : (s : StreamId) → watermark_of v s ≤ get_or marks (place_of s) 0
   pub most : (s : StreamId) → get_or marks (place_of s) 0 ≤ 2 ^ 62
 
--- A change comes after every record.
+-- A change comes after every record, and after every watermark but those of streams without one and of ended streams.
 pub record ChangeFollows (v : View) (at : ℕ) : Type 0 where
   pub most : at ≤ 2 ^ 62
+  pub marks : (s : StreamId) → 0 < watermark_of v s → watermark_of v s < 2 ^ 62 → watermark_of v s < at
   pub records : AllByRecursion (λ (r : Record). r.given.time < at) v.records
 
--- The message may follow the view. A query that is opened has the next number, and reads one stream; one that is closed
--- lives.
+-- A plan that may be opened: it is in its one form and in range, and reads one stream.
+pub record IsOpenable (p : Plan) : Type 0 where
+  pub canonical : IsCanonical p
+  pub fits : FitsPlan p
+  pub one : p.right ≡ p.left
+
+-- The message may follow the view. A query that is opened has the next number; one that is closed lives.
 abbrev pub Follows : View → Msg → Type 0
 Follows v (msg.Rec r) = RecordFollows v r
 Follows v (msg.Advance wm) = MarksFollow v wm
-Follows v (msg.Change (Opened n slot at plan)) = ChangeFollows v at × (n ≡ length v.queries + 1) × (plan.right ≡ plan.left)
+Follows v (msg.Change (Opened n slot at plan)) = ChangeFollows v at × (n ≡ length v.queries + 1) × IsOpenable plan
 Follows v (msg.Change (Closed n slot at)) = ChangeFollows v at × IsTrue (list_any (is_live n) v.queries)

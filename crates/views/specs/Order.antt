@@ -1,21 +1,11 @@
 -- The order of records: by time, then by line.
-use Rattle.std.specs.Prelude.{◌==◌, ◌&&◌, ◌||◌, nat_lt, if◌then◌else◌, Bool, List, [], ◌∷◌, IsTrue}
+use Rattle.std.specs.Prelude.{◌==◌, ◌&&◌, ◌||◌, nat_lt, Bool, List, [], ◌∷◌, IsTrue}
 use Rattle.std.specs.List.{AllByRecursion}
 use Rattle.as_base.specs.declared.item.Record.{Record}
 
 -- the first record has the lower time, or the same time and the lower line
 abbrev pub comes_before : Record → Record → Bool
 comes_before r s = nat_lt r.given.time s.given.time || (r.given.time == s.given.time && nat_lt r.seq s.seq)
-
--- the records with one more in its place
-abbrev pub put_in_order : Record → List Record → List Record
-put_in_order r [] = r ∷ []
-put_in_order r (s ∷ rs) = if comes_before s r then s ∷ put_in_order r rs else r ∷ s ∷ rs
-
--- the records by time, then by line
-abbrev pub in_order : List Record → List Record
-in_order [] = []
-in_order (r ∷ rs) = put_in_order r (in_order rs)
 
 -- each record comes before all later ones
 abbrev pub InOrder : List Record → Type 0

@@ -2,23 +2,38 @@
 //! definitions stand in `specs/`; the functions here are their laws.
 #![tactic(auto)]
 
-ghost use Rattle.std.specs.Prelude.{ℕ, List, ◌≡◌, ◌≢◌};
-ghost use Rattle.std.specs.List.{AllPairs};
-ghost use Rattle.std.specs.List.Sorted.{IsPermutation};
+ghost use Rattle.std.specs.Prelude.{ℕ, ℤ, List, true, ◌≡◌, ◌==◌, ◌<ℤ◌};
+ghost use Rattle.std.specs.List.{AllPairs, list_any};
+ghost use Rattle.std.specs.List.Sorted.{IsStrictlyIncreasing};
+ghost use Rattle.std.specs.Ordering.{int_eq};
 ghost use Rattle.as_words.specs.Prefix.{IsPrefix};
+ghost use Rattle.as_base.specs.Windows.{fits, in_window};
+ghost use Rattle.as_base.specs.declared.item.Given.{Given};
 ghost use Rattle.as_base.specs.declared.item.Record.{Record};
 ghost use Rattle.as_base.specs.declared.message.Change.{Change};
 ghost use Rattle.as_base.specs.declared.message.Msg.{Msg};
+ghost use Rattle.as_base.specs.declared.query.Group.{Group};
+ghost use Rattle.as_base.specs.declared.windows.WinSpec.{WinSpec};
 ghost use Rattle.views.specs.View.{View};
-ghost use Rattle.views.specs.Order.{in_order, InOrder};
-ghost use Rattle.views.specs.Rows.{due_to};
+ghost use Rattle.views.specs.Passed.{windows_with};
+ghost use Rattle.views.specs.Groups.{groups, group_of};
+ghost use Rattle.views.specs.Rows.{due_to, has_passed, rows_of};
 ghost use Rattle.views.specs.Message.{after, Follows};
 ghost use Rattle.views.specs.IsView.{IsView, first_view};
 
-/// Putting records in order gives the same records, and each comes before all later ones where no two are of one line.
-pub fn records_are_put_in_order()
-    ensures same { (rs : List Record) → IsPermutation rs (in_order rs) }
-    ensures order { (rs : List Record) → AllPairs (λ r s. r.seq ≢ s.seq) rs → InOrder (in_order rs) }
+/// The windows that hold some of the records are numbered by rising number, each once: window k is among them just where
+/// one of the records lies in it.
+pub fn windows_are_those_that_hold_records()
+    ensures rise { (w : WinSpec) (gs : List Given) → IsStrictlyIncreasing (windows_with w gs) }
+    ensures hold { (w : WinSpec) (gs : List Given) (k : ℕ) → fits w ≡ true →
+        list_any (λ j. j == k) (windows_with w gs) ≡ list_any (λ (g : Given). in_window w k g.time) gs }
+{}
+
+/// The groups of records stand by rising number, each once: a number is among them just where one of the records has it.
+pub fn groups_are_those_of_records()
+    ensures rise { (by : Group) (gs : List Given) → AllPairs ◌<ℤ◌ (groups by gs) }
+    ensures hold { (by : Group) (gs : List Given) (z : ℤ) →
+        list_any (λ y. int_eq y z) (groups by gs) ≡ list_any (λ (g : Given). int_eq (group_of by g) z) gs }
 {}
 
 /// What holds of every view holds of the first, and after each message that may follow.
@@ -35,4 +50,10 @@ pub fn due_rows_stay()
         due_to (after v (Msg.Rec r)) n ≡ due_to v n }
     ensures change_none { (v : View) (c : Change) (n : ℕ) → IsView v → Follows v (Msg.Change c) →
         due_to (after v (Msg.Change c)) n ≡ due_to v n }
+{}
+
+/// A window that the watermark of a query has passed stays passed, and its rows stay the same.
+pub fn passed_windows_stay()
+    ensures { (v : View) (m : Msg) (n k : ℕ) → IsView v → Follows v m → has_passed v n k ≡ true →
+        (has_passed (after v m) n k ≡ true) × (rows_of (after v m) n k ≡ rows_of v n k) }
 {}

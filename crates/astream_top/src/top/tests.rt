@@ -46,6 +46,41 @@ const DELETED: &[u8] =
     b"create select from b where v1 > 4\nrec b 5 1 9 0 0 0\nmark a 9\nrec b 6 1 4 0 0 0\ndelete 1\n\
     rec b 7 1 5 0 0 0\nrec b 10 1 5 0 0 0\nmark b 8\n";
 
+// One slot and one window have two holders, one after the other.
+const HOLDERS: &[u8] = b"create count by all from a tumble 100\nrec a 10 7 3 0 0 0\ndelete 1\n\
+    create sum v1 by all from a tumble 100\nrec a 40 7 5 0 0 0\nmark a 100\n";
+
+// Each record lies in two windows.
+const SLIDING: &[u8] =
+    b"create sum v1 by key from a slide 10 5\nrec a 7 1 3 0 0 0\nrec a 12 1 4 0 0 0\nmark a 20\n";
+
+// A record comes too late to be counted.
+const LATE: &[u8] =
+    b"create count by all from a tumble 100\nrec a 10 1 0 0 0 0\nrec a 9 1 0 0 0 0\n\
+    rec a 10 1 0 0 0 0\n";
+
+// The end of the query's life cuts its window.
+const CUT: &[u8] =
+    b"create count by all from a tumble 1000\nrec a 50 1 0 0 0 0\nmark a 100\ndelete 1\n\
+    mark a 100\nmark a 101\n";
+
+// Watermarks before and at a window's end.
+const EDGE: &[u8] =
+    b"create count by all from a tumble 10\nrec a 3 1 0 0 0 0\nmark a 9\nrec a 10 1 0 0 0 0\n\
+    mark a 10\n";
+
+// A watermark passes all windows at once.
+const AT_ONCE: &[u8] =
+    b"create count by all from a tumble 1\nrec a 0 1 0 0 0 0\nmark a 4611686018427387903\n";
+
+// The last window of all.
+const LAST: &[u8] =
+    b"create count by all from a tumble 10\nrec a 4611686018427387903 1 0 0 0 0\ndelete 1\n";
+
+// A sum of more than 64 bits.
+const WIDE: &[u8] = b"create sum v1 by v2 from a tumble 10\nrec a 1 3 9223372036854775807 5 0 0\n\
+    rec a 2 4 9223372036854775807 5 0 0\nmark a 10\n";
+
 // A desk over the input, whose pulls go by the cuts; if a call is named, it fails after so many bytes.
 fn desk(
     alloc: Global,
@@ -159,7 +194,7 @@ fn inputs_are_answered_by_the_rule(rt: HostRuntime) -> Result<(), Fail> {
         &rt,
         alloc,
         "run",
-        b"create count by all from a tumble 5\ncreate select from a\n",
+        b"create join a b tumble 5\ncreate select from a\n",
         later,
         b"",
     )?;
@@ -171,6 +206,71 @@ fn inputs_are_answered_by_the_rule(rt: HostRuntime) -> Result<(), Fail> {
         deleted,
         b"5 1 9 0 0 0\n7 1 5 0 0 0\n",
     )
+}
+
+// One count with its one answer, and what this leaves in output 1.
+fn counts<R: Threads + Sync + Abort>(
+    rt: &R,
+    alloc: Global,
+    input: &[u8],
+    said: &[u8],
+    output: &[u8],
+) -> Result<(), Fail> {
+    let mut wanted = b"1 created 1 at 0\n".to_vec(alloc)?;
+    wanted.extend_from_slice(said)?;
+    answers(rt, alloc, "run --slots 1", input, &wanted, output)
+}
+
+#[test]
+fn windows_have_their_rows(rt: HostRuntime) -> Result<(), Fail> {
+    let alloc = rt.alloc();
+    counts(
+        &rt,
+        alloc,
+        HOLDERS,
+        b"3 deleted 1 at 11\n4 created 2 at 11\ndone 6\n",
+        b"0 100 1\n",
+    )?;
+    counts(
+        &rt,
+        alloc,
+        SLIDING,
+        b"done 4\n",
+        b"0 10 1 3\n5 15 1 7\n10 20 1 4\n",
+    )?;
+    counts(&rt, alloc, LATE, b"3 late\ndone 4\n", b"0 100 2\n")?;
+    counts(
+        &rt,
+        alloc,
+        CUT,
+        b"4 deleted 1 at 101\ndone 6\n",
+        b"0 1000 1\n",
+    )?;
+    counts(&rt, alloc, EDGE, b"done 5\n", b"0 10 1\n10 20 1\n")?;
+    counts(&rt, alloc, AT_ONCE, b"done 3\n", b"0 1 1\n")?;
+    counts(
+        &rt,
+        alloc,
+        LAST,
+        b"3 deleted 1 at 4611686018427387904\ndone 3\n",
+        b"4611686018427387900 4611686018427387910 1\n",
+    )?;
+    counts(
+        &rt,
+        alloc,
+        WIDE,
+        b"done 4\n",
+        b"0 10 5 18446744073709551614\n",
+    )
+}
+
+#[test]
+fn a_window_has_its_second_holder_too(rt: HostRuntime) -> Result<(), Fail> {
+    let alloc = rt.alloc();
+    let mut desk = desk(alloc, HOLDERS, &[], None)?;
+    called(&rt, alloc, &mut desk, "run --slots 1")?;
+    assert!(rt; held(alloc, desk.log(), 2)?.as_slice() == b"0 100 5\n".as_slice());
+    Ok(())
 }
 
 #[test]

@@ -62,14 +62,17 @@ fn each_item_is_decided(rt: HostRuntime) {
     );
     assert_eq!(rt; created(alloc, s, b"select from a").0, Some(Word::Full));
     assert_eq!(rt;
-        created(alloc, s, b"count by all from a tumble 5").0,
+        created(alloc, s, b"join a b tumble 5").0,
         Some(Word::Later)
     );
     let deleted = Word::Deleted { n: 1, at: 6 };
     assert_eq!(rt; decided(s, &Item::Delete(1)), (Some(deleted), Some(0)));
     assert_eq!(rt; decided(s, &Item::Delete(1)).0, Some(Word::Unknown));
     let third = Word::Created { n: 3, at: 6 };
-    assert_eq!(rt; created(alloc, s, b"select from a"), (Some(third), Some(0)));
+    assert_eq!(rt;
+        created(alloc, s, b"count by all from a tumble 5"),
+        (Some(third), Some(0))
+    );
     assert_eq!(rt; recorded(s, StreamId::A, 4), Some(Word::Late));
     assert_eq!(rt; decided(s, &Item::Mark(StreamId::B, 9)).0, None);
     assert_eq!(rt; decided(s, &Item::Mark(StreamId::B, 8)).0, Some(Word::Back));

@@ -2,7 +2,7 @@ use Rattle.std.proofs.Common.{[], ap, subst, ◌∙◌}
 use Rattle.as_outside.specs.Makes.{Does}
 use Rattle.as_outside.proofs.MakesLaws.{makes_none}
 use Rattle.service.specs.Processor.{broken_in}
-use Rattle.astream_top.specs.declared.list_engine.ListEngine.{ListEngine}
+use Rattle.plain_engine.specs.declared.engine.PlainEngine.{PlainEngine}
 use Rattle.astream_top.specs.Run.{ended_by, RunEnds, IsEmptied}
 use Rattle.astream_top.proofs.CauseLaws.{caused, read, not_stopped}
 use Rattle.astream_top.proofs.PullLaws.{ended_early}
@@ -16,7 +16,7 @@ returns-in-Err-start-clause-ended g c = rw c.empty_report-in-Err-start.ensures (
 
 pub returns-clause-causes : goal.returns-clause-causes
 returns-clause-causes g c =
-    let config = ap (λ (e : ListEngine). e.config) c.in-Ok-start.ensures.same ∙ c.in-Ok.ensures.config in
+    let config = ap (λ (e : PlainEngine). e.config) c.in-Ok-start.ensures.same ∙ c.in-Ok.ensures.config in
     let p = c.run_all-outcome.new.run.processor in
     let status = ended_by c.run_all-outcome.result (broken_in p) in
     let ended = subst (λ d. Does (g.D.Shelf.seen c.args.desk.now) (g.D.Shelf.seen c.run_all-outcome.new.desk) (RunEnds d c.args.limit p status)) config c.run_all-outcome.ensures.ended in
@@ -24,7 +24,7 @@ returns-clause-causes g c =
 
 pub returns-clause-read : goal.returns-clause-read
 returns-clause-read g c = λ input is.
-    let config = ap (λ (e : ListEngine). e.config) c.in-Ok-start.ensures.same ∙ c.in-Ok.ensures.config in
+    let config = ap (λ (e : PlainEngine). e.config) c.in-Ok-start.ensures.same ∙ c.in-Ok.ensures.config in
     let p = c.run_all-outcome.new.run.processor in
     let result = c.run_all-outcome.result in
     let status = ended_by result (broken_in p) in

@@ -1,0 +1,9 @@
+pub mod Held
+pub mod Cells
+pub mod Walk
+pub mod Holding
+pub mod Store
+pub mod Engine
+pub use Rattle.as_base.specs.Range
+pub use Rattle.session.specs.Outcome
+pub use Rattle.session.specs.Acceptance
