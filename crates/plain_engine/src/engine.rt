@@ -145,11 +145,17 @@ impl QueryEngine for PlainEngine {
 
     #[inline(always)]
     fn feed_record(&mut self, given: &Given) -> Result<Option<Answer>, NoMemory> {
+        if self.stopped {
+            return Err(NoMemory);
+        }
         match self.session.accept_record(given) {
-            Ok(_) => {
-                self.store.take_record(given)?;
-                Ok(None)
-            }
+            Ok(_) => match self.store.take_record(given) {
+                Ok(()) => Ok(None),
+                Err(NoMemory) => {
+                    self.stopped = true;
+                    Err(NoMemory)
+                }
+            },
             Err(refusal) => Ok(Some(refusal)),
         }
     }

@@ -8,8 +8,8 @@ use Rattle.session.proofs.FollowLaws.{message-follows, view-is}
 use Rattle.plain_engine.proofs.EngineLaws.{grows_none, fed_by, fed_none, stands_by, stands_none}
 use Rattle.plain_engine.proofs.engine.PlainEngineQueryEngine.feed_record.Goals as goal
 
-pub returns-in_ok-take_record-in-Ok-clause-stands : goal.returns-in_ok-take_record-in-Ok-clause-stands
-returns-in_ok-take_record-in-Ok-clause-stands c = λ h s.
+pub returns-in-Ok-take_record-clause-stands : goal.returns-in-Ok-take_record-clause-stands
+returns-in-Ok-take_record-clause-stands c = λ h s.
     let config = c.args.self.now.config in
     let given = c.args.given.now in
     let x = Rec given in
@@ -17,7 +17,7 @@ returns-in_ok-take_record-in-Ok-clause-stands c = λ h s.
     let step = c.in-Ok.ensures.stands config h s.session in
     let decided = step.1 in
     let follows = message-follows config h x (msg.Rec r) s.ranged c.requires.range decided.0 in
-    let kept = c.in_ok-take_record-in-Ok.ensures (view config h) r refl (view-is config h s.ranged) follows s.store in
+    let kept = c.in-Ok-take_record.ensures (view config h) r refl (view-is config h s.ranged) follows s.store in
     (stands_by _ h x (msg.Rec r) s.going s.ranged c.requires.range decided.0 step.0 kept.0, fed_by config h x (msg.Rec r) (only_told None) decided.0 (sym decided.1) (grows_none (view config h) _ kept.1))
 
 pub returns-in-Err-clause-stands : goal.returns-in-Err-clause-stands
