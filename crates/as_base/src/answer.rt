@@ -29,8 +29,6 @@ pub enum Word {
     Full,
     /// No live query has that number.
     Unknown,
-    /// The line asks for what this stage does not build.
-    Later,
 }
 
 /// The answer to a line: its number, from 1, and the word.

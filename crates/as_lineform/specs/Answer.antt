@@ -1,7 +1,7 @@
 -- The texts of answers.
 use Rattle.std.specs.Prelude.{ℕ, List, ◌++◌, codes, decimal}
 use Rattle.as_base.specs.declared.answer.Word.{Word}
-use Rattle.as_base.specs.declared.answer.Word.TheVariants.{Created, Deleted, Long, Form, Stranger, Ended, Late, Back, Syntax, Twin, Window, Full, Unknown, Later}
+use Rattle.as_base.specs.declared.answer.Word.TheVariants.{Created, Deleted, Long, Form, Stranger, Ended, Late, Back, Syntax, Twin, Window, Full, Unknown}
 use Rattle.as_base.specs.declared.answer.Answer.{Answer}
 
 -- the text of an answer's word
@@ -19,7 +19,6 @@ word_text Twin = codes "twin"
 word_text Window = codes "window"
 word_text Full = codes "full"
 word_text Unknown = codes "unknown"
-word_text Later = codes "later"
 
 -- the text of an answer: its line's number, its word, a line feed
 abbrev pub answer_text : Answer → List ℕ

@@ -25,7 +25,7 @@ fn append_answer(a: &Answer, out: &mut Vec<u8>) -> Result<(), AllocError>
     out.extend_from_slice(b"\n")
 }
 
-/// Appends the text of a word, as `later` or `syntax 3`. After want of memory `out` may have grown by a prefix of it.
+/// Appends the text of a word, as `full` or `syntax 3`. After want of memory `out` may have grown by a prefix of it.
 pub fn append_word(word: Word, out: &mut Vec<u8>) -> Result<(), AllocError>
     ensures { AppendsPrefix result out.old.items out.new.items (word_text word) }
 {
@@ -43,7 +43,6 @@ pub fn append_word(word: Word, out: &mut Vec<u8>) -> Result<(), AllocError>
         Word::Window => out.extend_from_slice(b"window"),
         Word::Full => out.extend_from_slice(b"full"),
         Word::Unknown => out.extend_from_slice(b"unknown"),
-        Word::Later => out.extend_from_slice(b"later"),
     }
 }
 

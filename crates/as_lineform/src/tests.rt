@@ -290,7 +290,6 @@ fn answers_have_their_texts(rt: HostRuntime) -> Result<(), Fail> {
         Word::Window,
         Word::Full,
         Word::Unknown,
-        Word::Later,
     ];
     let mut out = Vec::new(rt.alloc());
     let mut line = 3;
@@ -311,7 +310,6 @@ fn answers_have_their_texts(rt: HostRuntime) -> Result<(), Fail> {
 30000000000 window
 300000000000 full
 3000000000000 unknown
-30000000000000 later
 ";
     assert_eq!(rt; out.as_slice(), text.as_slice());
     Ok(())

@@ -2,3 +2,4 @@ mod WordLaws
 pub mod PullLaws
 pub mod CauseLaws
 pub mod CommandLaws
+pub mod WorldLaws

@@ -4,6 +4,7 @@ pub mod Prompt
 pub mod Ends
 pub mod Run
 pub mod Causes
+pub mod Worlds
 pub mod Rows
 pub use Rattle.as_words.specs.Words
 pub use Rattle.as_base.specs.Config

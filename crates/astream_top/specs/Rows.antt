@@ -3,7 +3,8 @@ use Rattle.std.specs.Prelude.{ℕ, ◌≡◌, ◌^◌, refl, Some, None, replica
 use Rattle.std.specs.Fmt.{digits}
 use Rattle.as_lineform.specs.Lines.{items}
 use Rattle.as_base.specs.declared.config.Config.{Config}
-use Rattle.session.specs.View.{text_of}
+use Rattle.views.specs.Alike.{AreAlike}
+use Rattle.session.specs.View.{view, text_of}
 use Rattle.session.specs.Shut.{shut}
 use Rattle.service.specs.AnswerText.{answers_text, done_text}
 use Rattle.astream_top.specs.declared.command.Command.TheVariants.{Run}
@@ -101,11 +102,6 @@ third_of_three_in_the_end = refl
 pub malformed_lines : answered (replicate 5000 120 ++ 10 ∷ 195 ∷ 169 ∷ codes "\n\nmark a 1") ≡ codes "1 long\n2 form\n3 form\n"
 unfolding digits
 malformed_lines = refl
-
--- a join is not built yet
-pub later_answers : answered (codes "create join a b tumble 5\ncreate select from a\n") ≡ codes "1 later\n2 created 1 at 0\n"
-unfolding digits
-later_answers = refl
 
 -- the one slot is free again from the deletion on
 abbrev full_input : List ℕ
@@ -264,6 +260,112 @@ pub wide_sum : held_at 1 (codes "create sum v1 by v2 from a tumble 10\nrec a 1 3
     ≡ codes "0 10 5 18446744073709551614\n"
 unfolding digits
 wide_sum = refl
+
+-- two joins have one slot and one window, and each the pair of its own life; the lower watermark passes the window
+abbrev two_joins : List ℕ
+two_joins = codes "create join a b tumble 100\nrec a 10 7 0 0 0 0\ndelete 1\ncreate join a b tumble 100\nrec a 20 7 0 0 0 0\nrec b 5 7 0 0 0 0\nrec b 30 7 0 0 0 0\nmark a 100\n"
+
+pub two_joins_answers : answers_for (with 4 1) (two_joins ++ codes "mark b 100\n") ++ done_text 9
+    ≡ codes "1 created 1 at 0\n3 deleted 1 at 11\n4 created 2 at 11\ndone 9\n"
+unfolding digits
+two_joins_answers = refl
+
+pub two_joins_wait : text_of (with 4 1) (items two_joins) 1 ++ text_of (with 4 1) (items two_joins) 2 ≡ []
+unfolding digits
+two_joins_wait = refl
+
+pub first_join : text_of (with 4 1) (items (two_joins ++ codes "mark b 100\n")) 1 ≡ codes "0 100 7 10 0 0 0 0 5 0 0 0 0\n"
+unfolding digits
+first_join = refl
+
+pub second_join : text_of (with 4 1) (items (two_joins ++ codes "mark b 100\n")) 2 ≡ codes "0 100 7 20 0 0 0 0 30 0 0 0 0\n"
+unfolding digits
+second_join = refl
+
+-- equal records make as many equal rows as they make pairs
+pub equal_pairs : held_in_the_end 1 (codes "create join a b tumble 10\nrec a 1 7 0 0 0 0\nrec a 1 7 0 0 0 0\nrec b 2 7 0 0 0 0\nrec b 2 7 0 0 0 0\n")
+    ≡ codes "0 10 7 1 0 0 0 0 2 0 0 0 0\n0 10 7 1 0 0 0 0 2 0 0 0 0\n0 10 7 1 0 0 0 0 2 0 0 0 0\n0 10 7 1 0 0 0 0 2 0 0 0 0\n"
+unfolding digits
+equal_pairs = refl
+
+-- the pairs of a window stand by the numbers of their rows, and not by their lines
+pub ordered_pairs : held_in_the_end 1 (codes "create join a b tumble 10\nrec a 1 7 3 0 0 0\nrec a 1 7 3 0 0 0\nrec b 8 7 9 0 0 0\nrec b 8 7 5 0 0 0\n")
+    ≡ codes "0 10 7 1 3 0 0 0 8 5 0 0 0\n0 10 7 1 3 0 0 0 8 5 0 0 0\n0 10 7 1 3 0 0 0 8 9 0 0 0\n0 10 7 1 3 0 0 0 8 9 0 0 0\n"
+unfolding digits
+ordered_pairs = refl
+
+-- the one query of a run with 64 slots is like the second holder of the one slot above
+abbrev alone_input : List ℕ
+alone_input = codes "create select from a\nrec a 0 1 1 0 0 0\nmark a 1\n"
+
+pub like_the_second : AreAlike (view usual (items alone_input)) 1 (view (with 4 1) (items reused_input)) 2
+unfolding digits
+like_the_second = refl
+
+-- an hour of clicks on stream a and of purchases on b: the key is the user; a click has the page and the seconds that it
+-- was looked at, a purchase its price and the thing that was bought
+abbrev clicks : List ℕ
+clicks =
+    codes "create count by all from a tumble 600000\ncreate count by v1 from a tumble 1800000\ncreate sum v1 by key from b tumble 1800000\ncreate select from b where v1 >= 5000\ncreate join a b tumble 600000 left v1 = 3\ncreate sum v1 by all from b slide 1200000 600000\n"
+    ++ codes "rec a 60000 101 3 20 0 0\nrec a 120000 102 1 15 0 0\nrec b 180000 101 2500 7 0 0\nmark a 600000\nmark b 600000\nrec a 700000 102 3 9 0 0\n"
+    ++ codes "rec b 900000 102 7000 8 0 0\ndelete 1\ncreate count by key from a tumble 900000\ncreate select from a where key = 101\nrec a 1000000 101 2 30 0 0\nmark a 1200000\n"
+    ++ codes "mark b 1200000\ndelete 4\ncreate select from b where v1 < 5000\ndelete 5\ncreate join a b tumble 1200000\ncreate sum v1 by v2 from b tumble 3600000\n"
+    ++ codes "create count by all from b tumble 600000\nrec a 1300000 101 3 12 0 0\nrec b 1500000 101 4000 7 0 0\nrec b 1800000 102 6000 8 0 0\nrec a 1900000 102 3 5 0 0\nmark a 3600000\n"
+    ++ codes "mark b 3600000\n"
+
+pub clicks_answers : answered clicks ++ done_text 31
+    ≡ codes "1 created 1 at 0\n2 created 2 at 0\n3 created 3 at 0\n4 created 4 at 0\n5 created 5 at 0\n6 created 6 at 0\n14 deleted 1 at 900001\n15 created 7 at 900001\n"
+    ++ codes "16 created 8 at 900001\n20 deleted 4 at 1200001\n21 created 9 at 1200001\n22 deleted 5 at 1200001\n23 created 10 at 1200001\n24 created 11 at 1200001\n25 created 12 at 1200001\ndone 31\n"
+unfolding digits
+clicks_answers = refl
+
+pub first_of_clicks : held_at 1 clicks ≡ codes "0 600000 2\n600000 1200000 1\n"
+unfolding digits
+first_of_clicks = refl
+
+pub second_of_clicks : held_at 2 clicks ≡ codes "0 1800000 1 1\n0 1800000 2 1\n0 1800000 3 3\n1800000 3600000 3 1\n"
+unfolding digits
+second_of_clicks = refl
+
+pub third_of_clicks : held_at 3 clicks ≡ codes "0 1800000 101 6500\n0 1800000 102 7000\n1800000 3600000 102 6000\n"
+unfolding digits
+third_of_clicks = refl
+
+pub fourth_of_clicks : held_at 4 clicks ≡ codes "900000 102 7000 8 0 0\n"
+unfolding digits
+fourth_of_clicks = refl
+
+pub fifth_of_clicks : held_at 5 clicks ≡ codes "0 600000 101 60000 3 20 0 0 180000 2500 7 0 0\n600000 1200000 102 700000 3 9 0 0 900000 7000 8 0 0\n"
+unfolding digits
+fifth_of_clicks = refl
+
+pub sixth_of_clicks : held_at 6 clicks ≡ codes "0 1200000 9500\n600000 1800000 11000\n1200000 2400000 10000\n1800000 3000000 6000\n"
+unfolding digits
+sixth_of_clicks = refl
+
+pub seventh_of_clicks : held_at 7 clicks ≡ codes "900000 1800000 101 2\n1800000 2700000 102 1\n"
+unfolding digits
+seventh_of_clicks = refl
+
+pub eighth_of_clicks : held_at 8 clicks ≡ codes "1000000 101 2 30 0 0\n1300000 101 3 12 0 0\n"
+unfolding digits
+eighth_of_clicks = refl
+
+pub ninth_of_clicks : held_at 9 clicks ≡ codes "1500000 101 4000 7 0 0\n"
+unfolding digits
+ninth_of_clicks = refl
+
+pub tenth_of_clicks : held_at 10 clicks ≡ codes "1200000 2400000 101 1300000 3 12 0 0 1500000 4000 7 0 0\n1200000 2400000 102 1900000 3 5 0 0 1800000 6000 8 0 0\n"
+unfolding digits
+tenth_of_clicks = refl
+
+pub eleventh_of_clicks : held_at 11 clicks ≡ codes "0 3600000 7 4000\n0 3600000 8 6000\n"
+unfolding digits
+eleventh_of_clicks = refl
+
+pub twelfth_of_clicks : held_at 12 clicks ≡ codes "1200000 1800000 1\n1800000 2400000 1\n"
+unfolding digits
+twelfth_of_clicks = refl
 
 -- the words of `run`: two options, none, another, one that is out of its range, one given twice, one without its number, and none
 pub run_words : command_of (codes "run" ∷ codes "--slots" ∷ codes "1" ∷ codes "--streams" ∷ codes "2" ∷ []) ≡ Some (Run (with 2 1) (2 ^ 40))

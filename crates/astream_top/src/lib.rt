@@ -3,7 +3,9 @@
 
 mod command;
 mod explain;
+mod laws;
 mod run;
 mod top;
 
+pub use laws::alike_queries_have_equal_outputs;
 pub use top::{astream, rehearse};

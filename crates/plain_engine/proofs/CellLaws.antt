@@ -17,11 +17,11 @@ use Rattle.as_base.specs.declared.row.Row.TheVariants.{Agg}
 use Rattle.as_base.specs.Windows.{start_of, end_of}
 use Rattle.views.specs.Groups.{group_of, group_told, put_group, groups, of_group, sum_of, value_of}
 use Rattle.views.specs.Passed.{within}
-use Rattle.views.specs.Rows.{group_row, group_rows, rows_as}
+use Rattle.views.specs.Rows.{group_row, group_rows, rows_as, rows_with}
 use Rattle.views.proofs.ListLaws.{All-by}
 use Rattle.views.proofs.GroupLaws.{RisesSigned, RisesSigned-groups}
 use Rattle.plain_engine.specs.Cells.{summand, total, cell_of, cells_of, with_one, cell_of_one, put_cell, AreRising, IsWithin, AreWithin, IsPlace}
-use Rattle.plain_engine.specs.Walk.{value_told, row_of, window_rows, text_of_rows}
+use Rattle.plain_engine.specs.Walk.{value_told, row_of, text_of_rows}
 
 -- ---- tests of signed numbers
 
@@ -282,9 +282,9 @@ fold-more kind by gs left d cells new z value some within same adds before is =
     ∙ ap (cells_of kind by) (sym (drop-cons gs (left - 1) d (omega (arith, some, within)) ∙ ap (λ j. g ∷ drop j gs) next))
 
 -- the rows of the cells of a window, of a query that has groups
-pub window-groups : (p : Plan) (k : ℕ) (gs held : List Given) → held ≡ within p.win k gs → ((c : Col) × (p.kind ≡ Sum c)) ⊎ (p.kind ≡ Count)
-    → text_of_rows (map (row_of p k) (cells_of p.kind p.group held)) ≡ text_of_rows (window_rows p gs k)
-window-groups p k gs held same (inl s) =
-    ap text_of_rows (rows-cells p k held (subst HasGroups (sym s.1) tt) ∙ ap (group_rows p k) same ∙ ap (λ kind. rows_as kind p k (within p.win k gs)) (sym s.1))
-window-groups p k gs held same (inr e) =
-    ap text_of_rows (rows-cells p k held (subst HasGroups (sym e) tt) ∙ ap (group_rows p k) same ∙ ap (λ kind. rows_as kind p k (within p.win k gs)) (sym e))
+pub window-groups : (p : Plan) (k : ℕ) (lefts rights inside : List Given) → inside ≡ within p.win k lefts → ((c : Col) × (p.kind ≡ Sum c)) ⊎ (p.kind ≡ Count)
+    → text_of_rows (map (row_of p k) (cells_of p.kind p.group inside)) ≡ text_of_rows (rows_with p lefts rights k)
+window-groups p k lefts rights inside same (inl s) =
+    ap text_of_rows (rows-cells p k inside (subst HasGroups (sym s.1) tt) ∙ ap (group_rows p k) same ∙ ap (λ kind. rows_as kind p k (within p.win k lefts) (within p.win k rights)) (sym s.1))
+window-groups p k lefts rights inside same (inr e) =
+    ap text_of_rows (rows-cells p k inside (subst HasGroups (sym e) tt) ∙ ap (group_rows p k) same ∙ ap (λ kind. rows_as kind p k (within p.win k lefts) (within p.win k rights)) (sym e))

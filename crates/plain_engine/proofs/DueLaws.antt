@@ -7,6 +7,7 @@ use Rattle.std.proofs.lemmas.List.Elements.{filter-append}
 use Rattle.std.proofs.Math.Nat.{div-mul-le_self}
 use Rattle.as_base.specs.declared.item.Given.{Given}
 use Rattle.as_base.specs.declared.message.Msg.TheVariants as msg
+use Rattle.as_base.specs.declared.query.Kind.{Kind}
 use Rattle.as_base.specs.declared.query.Plan.{Plan}
 use Rattle.as_base.specs.declared.windows.WinSpec.{WinSpec}
 use Rattle.as_base.specs.Range.{IsTime}
@@ -15,16 +16,15 @@ use Rattle.as_base.proofs.WindowLaws.{moves_on, first-le-last, first_reaches, wi
 use Rattle.views.specs.Query.{Query}
 use Rattle.views.specs.View.{View, query_watermark}
 use Rattle.views.specs.Passed.{rising_once, windows_with, within, given_to, windows_of, is_passed}
-use Rattle.as_base.specs.declared.row.Row.{Row}
-use Rattle.views.specs.Rows.{rows_as, rows}
+use Rattle.views.specs.Rows.{rows_as, rows_with, rows}
 use Rattle.views.specs.Message.{after}
 use Rattle.views.specs.IsView.{IsQuery}
-use Rattle.views.proofs.ListLaws.{All-by, All-append, All-passed, filter-none, filter-same, filter-within, flat_map-same}
+use Rattle.views.proofs.ListLaws.{All-by, All-every, All-append, All-passed, filter-none, filter-same, filter-within, flat_map-same}
 use Rattle.views.proofs.RisingLaws.{All-put_once, filter-rising_once}
 use Rattle.views.proofs.WindowLaws.{All-windows_at}
 use Rattle.views.proofs.DueLaws.{rows_between as rows_by}
-use Rattle.plain_engine.specs.Held.{awaits, is_needed, held_of}
-use Rattle.plain_engine.specs.Walk.{is_between, window_rows, rows_between, text_of_rows}
+use Rattle.plain_engine.specs.Held.{awaits, is_needed, is_join, given_on_right, held_of}
+use Rattle.plain_engine.specs.Walk.{is_between, rows_between, text_of_rows}
 use Rattle.plain_engine.specs.Holding.{mark_by, due_text}
 
 -- ---- windows of the records that are held
@@ -75,22 +75,34 @@ held-windows w mark until gs fit =
     ∙ sym (filter-rising_once (is_between (first_window w mark) until) (flat_map (λ (g : Given). windows_at w g.time) gs))
 
 -- the rows from what is held are those from all records
-pub held-rows : (p : Plan) (mark until : ℕ) (gs : List Given) → fits p.win ≡ true
-    → rows_between p (first_window p.win mark) until (filter (is_needed p.win mark) gs) ≡ rows_between p (first_window p.win mark) until gs
-held-rows p mark until gs fit =
-    ap (flat_map (window_rows p (filter (is_needed p.win mark) gs))) (held-windows p.win mark until gs fit)
-    ∙ flat_map-same (window_rows p (filter (is_needed p.win mark) gs)) (window_rows p gs) (filter between (windows_with p.win gs))
-    (All-by (λ k. between k ≡ true) (λ k. window_rows p (filter (is_needed p.win mark) gs) k ≡ window_rows p gs k)
+held-rows : (p : Plan) (mark until : ℕ) (lefts rights : List Given) → fits p.win ≡ true
+    → rows_between p (first_window p.win mark) until (filter (is_needed p.win mark) lefts) (filter (is_needed p.win mark) rights) ≡ rows_between p (first_window p.win mark) until lefts rights
+held-rows p mark until lefts rights fit =
+    ap (flat_map (rows_with p (filter needed lefts) (filter needed rights))) (held-windows p.win mark until lefts fit)
+    ∙ flat_map-same (rows_with p (filter needed lefts) (filter needed rights)) (rows_with p lefts rights) (filter between (windows_with p.win lefts))
+    (All-by (λ k. between k ≡ true) (λ k. rows_with p (filter needed lefts) (filter needed rights) k ≡ rows_with p lefts rights k)
     (λ k both.
     let low = leb-true (first_window p.win mark) k (and_parts (nat_le (first_window p.win mark) k) (nat_lt k until) both).0 in
-    ap (rows_of p k) (held-within p.win mark k gs fit low))
-    (filter between (windows_with p.win gs)) (All-passed between (windows_with p.win gs)))
+    ap₂ (rows_as p.kind p k) (held-within p.win mark k lefts fit low) (held-within p.win mark k rights fit low))
+    (filter between (windows_with p.win lefts)) (All-passed between (windows_with p.win lefts)))
   where
     between : ℕ → Bool
     between = is_between (first_window p.win mark) until
 
-    rows_of : Plan → ℕ → List Given → List Row
-    rows_of p k l = rows_as p.kind p k l
+    needed : Given → Bool
+    needed = is_needed p.win mark
+
+-- a query that is no join does not look at right records
+rows-sides : (p : Plan) (first until : ℕ) (lefts rights : List Given) → rows_between p first until lefts (cond (is_join p.kind) rights []) ≡ rows_between p first until lefts rights
+rows-sides p first until lefts rights =
+    flat_map-same (rows_with p lefts (cond (is_join p.kind) rights [])) (rows_with p lefts rights) (filter (is_between first until) (windows_with p.win lefts))
+    (All-every (λ k. rows_with p lefts (cond (is_join p.kind) rights []) k ≡ rows_with p lefts rights k) (λ k. go k p.kind) (filter (is_between first until) (windows_with p.win lefts)))
+  where
+    go : (k : ℕ) (kind : Kind) → rows_as kind p k (within p.win k lefts) (within p.win k (cond (is_join kind) rights [])) ≡ rows_as kind p k (within p.win k lefts) (within p.win k rights)
+    go k Kind.Select = refl
+    go k (Kind.Sum c) = refl
+    go k Kind.Count = refl
+    go k Kind.Join = refl
 
 -- ---- which windows are passed
 
@@ -171,8 +183,8 @@ passed-left w to k mark fit low = by_cases (nat_le to mark) refl
 between-is : (first until k : ℕ) → (nat_lt k until && not (nat_lt k first)) ≡ is_between first until k
 between-is first until k = grind (arith, nat_tests)
 
-pub rows-due : (v : View) (marks : List ℕ) (q : Query) → IsQuery q → AllByRecursion (λ (g : Given). IsTime g.time) (given_to v q q.plan.left) → awaits v q ≡ true
-    → rows_between q.plan (first_window q.plan.win (query_watermark v q)) (left_by q.plan.win q.to (mark_by marks q.plan)) (given_to v q q.plan.left) ≡ rows_by v marks q
+rows-due : (v : View) (marks : List ℕ) (q : Query) → IsQuery q → AllByRecursion (λ (g : Given). IsTime g.time) (given_to v q q.plan.left) → awaits v q ≡ true
+    → rows_between q.plan (first_window q.plan.win (query_watermark v q)) (left_by q.plan.win q.to (mark_by marks q.plan)) (given_to v q q.plan.left) (given_to v q q.plan.right) ≡ rows_by v marks q
 rows-due v marks q made times waits =
     ap (flat_map (rows v q))
     (filter-same (is_between first until) (λ k. is_passed (after v (msg.Advance marks)) q k && not (is_passed v q k)) (windows_of v q)
@@ -223,6 +235,8 @@ pub due-held : (v : View) (marks : List ℕ) (q : Query) → IsQuery q → AllBy
 due-held v marks q made times waits =
     let open_still = lt-leb q.to (query_watermark v q) (ltb-true (query_watermark v q) q.to waits) in
     let until = left_by q.plan.win q.to (mark_by marks q.plan) in
-    let records = (held_of v q).records in
-    ap (λ b. cond b [] (text_of_rows (rows_between q.plan (cond b (2 ^ 62) (first_window q.plan.win (query_watermark v q))) until records))) open_still
-    ∙ ap text_of_rows (held-rows q.plan (query_watermark v q) until (given_to v q q.plan.left) (made.fits).0 ∙ rows-due v marks q made times waits)
+    let first = first_window q.plan.win (query_watermark v q) in
+    let lefts = given_to v q q.plan.left in
+    ap (λ b. cond b [] (text_of_rows (rows_between q.plan (cond b (2 ^ 62) first) until (held_of v q).lefts (held_of v q).rights))) open_still
+    ∙ ap text_of_rows
+    (held-rows q.plan (query_watermark v q) until lefts (given_on_right v q) (made.fits).0 ∙ rows-sides q.plan first until lefts (given_to v q q.plan.right) ∙ rows-due v marks q made times waits)

@@ -1,5 +1,7 @@
 pub mod CellLaws
+pub mod CutLaws
 pub mod TimeLaws
+pub mod PairLaws
 pub mod WalkLaws
 pub mod PieceLaws
 pub mod HeldLaws

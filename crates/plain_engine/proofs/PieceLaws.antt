@@ -14,7 +14,7 @@ use Rattle.views.proofs.ListLaws.{All-by, All-append, All-push, cond_same}
 use Rattle.views.proofs.RisingLaws.{Rises, Rises-strictly}
 use Rattle.plain_engine.specs.Held.{Held, is_needed}
 use Rattle.plain_engine.specs.Walk.{put_by_time}
-use Rattle.plain_engine.specs.Holding.{mark_by, piece_of, ended, wants, with_given, forgotten}
+use Rattle.plain_engine.specs.Holding.{mark_by, with_records, piece_of, ended, wants_left, wants_right, with_given, forgotten}
 
 -- ---- rising numbers
 
@@ -166,21 +166,22 @@ written-numbers len items old new e same is =
 pub KeepsNumbers-ended : (n at : ℕ) → KeepsNumbers (ended n at)
 KeepsNumbers-ended n at h = go (eqb h.n n)
   where
-    go : (b : Bool) → (cond b (record { n = h.n; plan = h.plan; from = h.from; to = min h.to at; records = h.records }) h).n ≡ h.n
+    go : (b : Bool) → (cond b (record { n = h.n; plan = h.plan; from = h.from; to = min h.to at; lefts = h.lefts; rights = h.rights }) h).n ≡ h.n
     go true = refl
     go false = refl
 
 pub KeepsNumbers-given : (g : Given) → KeepsNumbers (with_given g)
-KeepsNumbers-given g h = go (wants h g)
+KeepsNumbers-given g h = go (wants_left h g) (wants_right h g)
   where
-    go : (b : Bool) → (cond b (record { n = h.n; plan = h.plan; from = h.from; to = h.to; records = put_by_time g h.records }) h).n ≡ h.n
-    go true = refl
-    go false = refl
+    go : (left right : Bool) → (cond left (with_records h (put_by_time g h.lefts) h.rights) (cond right (with_records h h.lefts (put_by_time g h.rights)) h)).n ≡ h.n
+    go true right = refl
+    go false true = refl
+    go false false = refl
 
 pub KeepsNumbers-forgotten : (marks : List ℕ) → KeepsNumbers (λ (h : Held). forgotten (mark_by marks h.plan) h)
 KeepsNumbers-forgotten marks h = go (nat_le h.to (mark_by marks h.plan))
   where
-    go : (b : Bool) → (cond b h (record { n = h.n; plan = h.plan; from = h.from; to = h.to; records = filter (is_needed h.plan.win (mark_by marks h.plan)) h.records })).n ≡ h.n
+    go : (b : Bool) → (cond b h (with_records h (filter (is_needed h.plan.win (mark_by marks h.plan)) h.lefts) (filter (is_needed h.plan.win (mark_by marks h.plan)) h.rights))).n ≡ h.n
     go true = refl
     go false = refl
 

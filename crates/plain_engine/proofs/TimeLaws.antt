@@ -1,48 +1,27 @@
 -- Records that stand by time: how they are cut at a time, and where one more goes.
-use Rattle.std.proofs.Common.{◌≡◌, ℕ, ◌+◌, ◌≤◌, ◌<◌, nat_lt, nat_le, Bool, true, false, cond, zero, suc, List, [], ◌∷◌, ◌++◌, length, get_or, take, drop, Result, Ok, Err, OnOk, OnErr, refl, sym, ap, subst, ◌∙◌, drop-drop, arith, rules}
+use Rattle.std.proofs.Common.{◌≡◌, ℕ, ◌+◌, ◌≤◌, ◌<◌, nat_lt, nat_le, Bool, true, false, not, cond, zero, suc, List, [], ◌∷◌, ◌++◌, length, get_or, take, drop, Result, Ok, Err, OnOk, OnErr, refl, sym, ap, subst, ◌∙◌, drop-drop, arith, rules}
 use Rattle.std.specs.List.{filter, insert, AllByRecursion}
-use Rattle.std.specs.List.Sorted.{IsPartitionPoint}
 use Rattle.std.proofs.lemmas.Bool.{ltb-true, ltb-false, le-leb, lt-leb, leb-true, leb-false}
+use Rattle.std.proofs.lemmas.Bool.Decides.{nat_tests}
 use Rattle.std.proofs.lemmas.List.Sorted.{IsNonDecreasingBy-drop}
 use Rattle.as_base.specs.declared.item.Given.{Given}
 use Rattle.as_base.specs.declared.memory.NoMemory.{NoMemory}
 use Rattle.as_base.specs.Range.{IsTime}
+use Rattle.std.proofs.lemmas.List.Elements.{filter_agree}
 use Rattle.views.proofs.ListLaws.{All-by, All-filter}
 use Rattle.plain_engine.specs.Walk.{AreByTime, AreWaiting, IsPlaceAt, put_by_time}
+use Rattle.plain_engine.proofs.CutLaws.{IsCutAt, cut-rest}
 
 -- ---- cut at a time
 
-abbrev pub IsCutAt : ℕ → List Given → ℕ → Type 0
-IsCutAt time gs i = IsPartitionPoint (λ (g : Given). nat_lt g.time time ≡ true) (λ (g : Given). nat_lt g.time time ≡ false) gs i
-
-rest-cut : (time : ℕ) (g : Given) (gs : List Given) (i : ℕ) → IsCutAt time (g ∷ gs) (suc i) → IsCutAt time gs i
-rest-cut time g gs i h = (λ k d low high. h.0 (suc k) d (omega arith) (omega (arith, high)), λ k d low high. h.1 (suc k) d (omega (arith, low)) (omega (arith, high)))
-
-late-cut : (time : ℕ) (g : Given) (gs : List Given) → IsCutAt time (g ∷ gs) 0 → IsCutAt time gs 0
-late-cut time g gs h = (λ k d low high. absurd (omega (arith, low, high)), λ k d low high. h.1 (suc k) d (omega arith) (omega (arith, high)))
-
--- the records before the point are those before the time
-pub cut-before : (time i : ℕ) (gs : List Given) → IsCutAt time gs i → take i gs ≡ filter (λ (g : Given). nat_lt g.time time) gs
-cut-before time zero [] h = refl
-cut-before time (suc i) [] h = refl
-cut-before time zero (g ∷ gs) h =
-    cut-before time 0 gs (late-cut time g gs h) ∙ ap (λ b. cond b (g ∷ filter (λ (g : Given). nat_lt g.time time) gs) (filter (λ (g : Given). nat_lt g.time time) gs)) (sym (h.1 0 g (omega arith) (omega arith)))
-cut-before time (suc i) (g ∷ gs) h =
-    ap (λ l. g ∷ l) (cut-before time i gs (rest-cut time g gs i h))
-    ∙ ap (λ b. cond b (g ∷ filter (λ (g : Given). nat_lt g.time time) gs) (filter (λ (g : Given). nat_lt g.time time) gs)) (sym (h.0 0 g (omega arith) (omega arith)))
-
--- and those from it on are not
-pub cut-rest : (time i : ℕ) (gs : List Given) → IsCutAt time gs i → drop i gs ≡ filter (λ (g : Given). nat_le time g.time) gs
-cut-rest time zero [] h = refl
-cut-rest time (suc i) [] h = refl
-cut-rest time zero (g ∷ gs) h =
-    let late = ltb-false g.time time (h.1 0 g (omega arith) (omega arith)) in
-    ap (λ l. g ∷ l) (cut-rest time 0 gs (late-cut time g gs h))
-    ∙ ap (λ b. cond b (g ∷ filter (λ (g : Given). nat_le time g.time) gs) (filter (λ (g : Given). nat_le time g.time) gs)) (sym (le-leb time g.time late))
-cut-rest time (suc i) (g ∷ gs) h =
-    let early = ltb-true g.time time (h.0 0 g (omega arith) (omega arith)) in
-    cut-rest time i gs (rest-cut time g gs i h)
-    ∙ ap (λ b. cond b (g ∷ filter (λ (g : Given). nat_le time g.time) gs) (filter (λ (g : Given). nat_le time g.time) gs)) (sym (lt-leb time g.time early))
+-- the records from the point on, where those before the time end, are not before it
+pub cut-from_time : (time i : ℕ) (gs : List Given) → IsCutAt (λ (g : Given). nat_lt g.time time) gs i → drop i gs ≡ filter (λ (g : Given). nat_le time g.time) gs
+cut-from_time time i gs h =
+    cut-rest (λ (g : Given). nat_lt g.time time) i gs h
+    ∙ filter_agree (λ (g : Given). not (nat_lt g.time time)) (λ (g : Given). nat_le time g.time) (λ g. not_before g.time time) gs
+  where
+    not_before : (x z : ℕ) → not (nat_lt x z) ≡ nat_le z x
+    not_before x z = grind (arith, nat_tests)
 
 -- ---- one more record
 

@@ -12,11 +12,12 @@ use Rattle.as_base.specs.declared.windows.WinSpec.{WinSpec}
 use Rattle.as_base.specs.Windows.{fits, start_of, end_of, in_window, first_window}
 use Rattle.as_base.proofs.WindowLaws.{moves_on, first-le-last, window-among, among-window}
 use Rattle.views.specs.Passed.{windows_with}
+use Rattle.views.specs.Rows.{rows_with}
 use Rattle.views.proofs.ListLaws.{All-by, All-filter, All-passed, filter-same}
 use Rattle.views.proofs.RisingLaws.{Rises}
 use Rattle.views.proofs.WindowLaws.{Rises-windows, list_any-windows}
 use Rattle.row_text.specs.RowText.{row_text}
-use Rattle.plain_engine.specs.Walk.{AreByTime, next_from, is_between, window_rows, rows_between, text_of_rows}
+use Rattle.plain_engine.specs.Walk.{AreByTime, next_from, is_between, rows_between, text_of_rows}
 use Rattle.plain_engine.proofs.TimeLaws.{by_time-first, by_time-rest}
 
 -- ---- the next of rising numbers
@@ -253,23 +254,28 @@ text-append : (a b : List Row) → text_of_rows (a ++ b) ≡ text_of_rows a ++ t
 text-append a b = flat_map-append row_text a b
 
 -- the rows of the next window, and then those of the windows after it
-pub rows-next : (p : Plan) (k until m : ℕ) (gs : List Given) (out new : List ℕ) → next_from k (windows_with p.win gs) ≡ Some m → m < until → new ≡ out ++ text_of_rows (window_rows p gs m)
-    → new ++ text_of_rows (rows_between p (m + 1) until gs) ≡ out ++ text_of_rows (rows_between p k until gs)
-rows-next p k until m gs out new next early is =
-    let rest = text_of_rows (rows_between p (m + 1) until gs) in
+pub rows-next : (p : Plan) (k until m : ℕ) (lefts rights : List Given) (out new : List ℕ) → next_from k (windows_with p.win lefts) ≡ Some m → m < until
+    → new ≡ out ++ text_of_rows (rows_with p lefts rights m) → new ++ text_of_rows (rows_between p (m + 1) until lefts rights) ≡ out ++ text_of_rows (rows_between p k until lefts rights)
+rows-next p k until m lefts rights out new next early is =
+    let rest = text_of_rows (rows_between p (m + 1) until lefts rights) in
     ap (λ l. l ++ rest) is
-    ∙ append_assoc out (text_of_rows (window_rows p gs m)) rest
+    ∙ append_assoc out (text_of_rows (rows_with p lefts rights m)) rest
     ∙ ap (λ l. out ++ l)
-    (sym (text-append (window_rows p gs m) (rows_between p (m + 1) until gs)) ∙ ap (λ l. text_of_rows (flat_map (window_rows p gs) l)) (sym (between-next k until m (windows_with p.win gs) (Rises-windows p.win gs) next early)))
+    (sym (text-append (rows_with p lefts rights m) (rows_between p (m + 1) until lefts rights))
+    ∙ ap (λ l. text_of_rows (flat_map (rows_with p lefts rights) l)) (sym (between-next k until m (windows_with p.win lefts) (Rises-windows p.win lefts) next early)))
 
 -- no rows where the next window is not before the end, or there is none
-pub rows-late : (p : Plan) (k until m : ℕ) (gs : List Given) (out old : List ℕ) → next_from k (windows_with p.win gs) ≡ Some m → until ≤ m → out ++ text_of_rows (rows_between p k until gs) ≡ old → out ≡ old
-rows-late p k until m gs out old next late is =
-    sym (append-nil out) ∙ ap (λ l. out ++ text_of_rows (flat_map (window_rows p gs) l)) (sym (between-late k until m (windows_with p.win gs) (Rises-windows p.win gs) next late)) ∙ is
+pub rows-late : (p : Plan) (k until m : ℕ) (lefts rights : List Given) (out old : List ℕ) → next_from k (windows_with p.win lefts) ≡ Some m → until ≤ m
+    → out ++ text_of_rows (rows_between p k until lefts rights) ≡ old → out ≡ old
+rows-late p k until m lefts rights out old next late is =
+    sym (append-nil out)
+    ∙ ap (λ l. out ++ text_of_rows (flat_map (rows_with p lefts rights) l)) (sym (between-late k until m (windows_with p.win lefts) (Rises-windows p.win lefts) next late))
+    ∙ is
 
-pub rows-none : (p : Plan) (k until : ℕ) (gs : List Given) (out old : List ℕ) → next_from k (windows_with p.win gs) ≡ None → out ++ text_of_rows (rows_between p k until gs) ≡ old → out ≡ old
-rows-none p k until gs out old next is =
-    sym (append-nil out) ∙ ap (λ l. out ++ text_of_rows (flat_map (window_rows p gs) l)) (sym (between-none k until (windows_with p.win gs) next)) ∙ is
+pub rows-none : (p : Plan) (k until : ℕ) (lefts rights : List Given) (out old : List ℕ) → next_from k (windows_with p.win lefts) ≡ None
+    → out ++ text_of_rows (rows_between p k until lefts rights) ≡ old → out ≡ old
+rows-none p k until lefts rights out old next is =
+    sym (append-nil out) ∙ ap (λ l. out ++ text_of_rows (flat_map (rows_with p lefts rights) l)) (sym (between-none k until (windows_with p.win lefts) next)) ∙ is
 
 -- the next window begins where its number times the slide is in range
 pub start-next : (w : WinSpec) (k : ℕ) → fits w ≡ true → start_of w k < 2 ^ 62 → start_of w (k + 1) < 2 ^ 63

@@ -1,6 +1,7 @@
 pub mod Held
 pub mod Cells
 pub mod Walk
+pub mod ByKey
 pub mod Holding
 pub mod Store
 pub mod Engine

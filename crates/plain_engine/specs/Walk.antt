@@ -12,8 +12,8 @@ use Rattle.as_base.specs.declared.row.Row.TheVariants.{Agg}
 use Rattle.as_base.specs.Range.{IsTime}
 use Rattle.as_base.specs.Windows.{start_of, end_of}
 use Rattle.views.specs.Groups.{group_told}
-use Rattle.views.specs.Passed.{windows_with, within}
-use Rattle.views.specs.Rows.{rows_as}
+use Rattle.views.specs.Passed.{windows_with}
+use Rattle.views.specs.Rows.{rows_with}
 use Rattle.row_text.specs.RowText.{row_text}
 
 -- the records stand by time
@@ -54,13 +54,9 @@ value_told Join cell = pos 0
 abbrev pub row_of : Plan → ℕ → Cell → Row
 row_of p k cell = Agg (start_of p.win k) (end_of p.win k) (group_told p.group cell.group) (value_told p.kind cell)
 
--- the rows of window k
-abbrev pub window_rows : Plan → List Given → ℕ → List Row
-window_rows p gs k = rows_as p.kind p k (within p.win k gs)
-
--- the rows of the windows from the first on and before the last that hold some of the records
-abbrev pub rows_between : Plan → ℕ → ℕ → List Given → List Row
-rows_between p first until gs = flat_map (window_rows p gs) (filter (is_between first until) (windows_with p.win gs))
+-- the rows of the windows from the first on and before the last that hold some of the left records
+abbrev pub rows_between : Plan → ℕ → ℕ → List Given → List Given → List Row
+rows_between p first until lefts rights = flat_map (rows_with p lefts rights) (filter (is_between first until) (windows_with p.win lefts))
 
 -- the text of rows
 abbrev pub text_of_rows : List Row → List ℕ

@@ -3,24 +3,25 @@ ghost use Rattle.as_base.specs.declared.item.Given.{Given};
 ghost use Rattle.as_base.specs.Range.{IsTime};
 ghost use Rattle.as_base.specs.Stream.{place_of};
 ghost use Rattle.as_base.specs.Windows.{fits};
-ghost use Rattle.plain_engine.specs.Holding.{newly_held, wants, with_given, ended, first_left, due_text, forgotten};
+ghost use Rattle.plain_engine.specs.Held.{is_join};
+ghost use Rattle.plain_engine.specs.Holding.{newly_held, wants_on, wants_left, wants_right, with_given, ended, first_left, due_text, forgotten};
 
 use crate::rows::append_windows;
 use crate::waiting::Waiting;
-use crate::windows::count_before;
-use as_base::{FOREVER, Given, NoMemory, Plan, StreamId};
+use as_base::{Bounds, FOREVER, Given, Kind, NoMemory, Plan, StreamId};
 use std::alloc::Global;
 use std::marker::Model;
 
 /// A query that may still get rows: its number, its plan, its life from a time up to but not including another, in
-/// ticks, and those of its records that some window still wants.
+/// ticks, and those of its records that some window still wants, of a join on each side.
 #[derive(Debug, Drop)]
 pub struct Holding {
     n: u64,
     plan: Plan,
     from: u64,
     to: u64,
-    waiting: Waiting,
+    lefts: Waiting,
+    rights: Waiting,
 }
 
 impl Model for Holding {
@@ -30,7 +31,7 @@ impl Model for Holding {
 
     ghost Value = { Held };
 
-    ghost view = { λ h. record { n = h.n; plan = h.plan; from = h.from; to = h.to; records = h.waiting } };
+    ghost view = { λ h. record { n = h.n; plan = h.plan; from = h.from; to = h.to; lefts = h.lefts; rights = h.rights } };
 
     ghost invariant = { λ h. (fits h.plan.win ≡ true) × (h.to ≤ 2 ^ 62) };
 }
@@ -40,6 +41,13 @@ fn is_same(one: StreamId, other: StreamId) -> bool
     ensures { result ≡ (place_of one == place_of other) }
 {
     one == other
+}
+
+// Queries of this kind read a right stream beside the left one.
+fn is_join(kind: Kind) -> bool
+    ensures { result ≡ is_join kind }
+{
+    matches!(kind, Kind::Join)
 }
 
 impl Holding {
@@ -53,7 +61,8 @@ impl Holding {
             plan: *plan,
             from: at,
             to: FOREVER,
-            waiting: Waiting::new(alloc),
+            lefts: Waiting::new(alloc),
+            rights: Waiting::new(alloc),
         }
     }
 
@@ -78,15 +87,31 @@ impl Holding {
         mark < self.to
     }
 
-    // The query wants the record: it reads its stream, lives at its time, and its bounds hold it.
-    fn wants(&self, given: &Given) -> bool
-        ensures value { result ≡ wants self.now given.now }
+    // The query wants the record of a stream that it reads within these bounds: it lives at its time, and they hold it.
+    fn wants_on(&self, stream: StreamId, bounds: &Bounds, given: &Given) -> bool
+        ensures value { result ≡ wants_on self.now stream bounds.now given.now }
         ensures time { result ≡ true → IsTime given.now.time }
     {
-        is_same(given.stream, self.plan.left)
+        is_same(given.stream, stream)
             && self.from <= given.time
             && given.time < self.to
-            && self.plan.left_bounds.holds(given)
+            && bounds.holds(given)
+    }
+
+    // The query wants the record of its left stream.
+    fn wants_left(&self, given: &Given) -> bool
+        ensures value { result ≡ wants_left self.now given.now }
+        ensures time { result ≡ true → IsTime given.now.time }
+    {
+        self.wants_on(self.plan.left, &self.plan.left_bounds, given)
+    }
+
+    // The query is a join, and wants the record of its right stream.
+    fn wants_right(&self, given: &Given) -> bool
+        ensures value { result ≡ wants_right self.now given.now }
+        ensures time { result ≡ true → IsTime given.now.time }
+    {
+        is_join(self.plan.kind) && self.wants_on(self.plan.right, &self.plan.right_bounds, given)
     }
 
     /// Takes a record, if the query wants it. The one refusal is `NoMemory`, after which nothing has changed.
@@ -94,10 +119,13 @@ impl Holding {
         ensures ok { OnOk result (self.new ≡ with_given given.now self.old) }
         ensures err { OnErr result (self.new ≡ self.old) }
     {
-        if !self.wants(given) {
-            return Ok(());
+        if self.wants_left(given) {
+            return self.lefts.put(given);
         }
-        self.waiting.put(given)
+        if self.wants_right(given) {
+            return self.rights.put(given);
+        }
+        Ok(())
     }
 
     /// Ends the query's life at a time, if it has this number and does not end before.
@@ -140,9 +168,9 @@ impl Holding {
         append_windows(
             alloc,
             &self.plan,
-            first,
-            until,
-            self.waiting.as_slice(),
+            first..until,
+            self.lefts.as_slice(),
+            self.rights.as_slice(),
             out,
         )
     }
@@ -155,7 +183,7 @@ impl Holding {
             return;
         }
         let start = self.first_left(mark) * self.plan.win.slide;
-        let count = count_before(self.waiting.as_slice(), start);
-        self.waiting.forget(count);
+        self.lefts.forget_before(start);
+        self.rights.forget_before(start);
     }
 }

@@ -1,7 +1,10 @@
-ghost use Rattle.std.specs.Prelude.{◌≡◌, ◌≤◌, ◌+◌, [], length, drop, vec_len, OnOk, OnErr};
+ghost use Rattle.std.specs.Prelude.{◌≡◌, ◌≤◌, ◌+◌, nat_le, [], length, drop, vec_len, OnOk, OnErr};
+ghost use Rattle.std.specs.List.{filter};
+ghost use Rattle.as_base.specs.declared.item.Given.{Given};
 ghost use Rattle.as_base.specs.Range.{IsTime};
 ghost use Rattle.plain_engine.specs.Walk.{AreByTime, AreWaiting, IsPlaceAt, put_by_time};
 
+use crate::windows::count_before;
 use as_base::{Given, NoMemory};
 use std::alloc::Global;
 use std::marker::Model;
@@ -85,8 +88,8 @@ impl Waiting {
         put_from(&mut self.records, self.gone, given)
     }
 
-    /// Lets so many of the first records go. Their memory goes once they are more than those that stay.
-    pub fn forget(&mut self, count: usize)
+    // Lets so many of the first records go. Their memory goes once they are more than those that stay.
+    fn forget(&mut self, count: usize)
         requires { count ≤ length self.old }
         ensures { self.new ≡ drop count self.old }
     {
@@ -95,5 +98,13 @@ impl Waiting {
             cut(&mut self.records, self.gone);
             self.gone = 0;
         }
+    }
+
+    /// Lets the records go that are before the time.
+    pub fn forget_before(&mut self, time: u64)
+        ensures { self.new ≡ filter (λ (g : Given). nat_le time g.time) self.old }
+    {
+        let count = count_before(self.as_slice(), time);
+        self.forget(count);
     }
 }

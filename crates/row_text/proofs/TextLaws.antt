@@ -5,10 +5,12 @@ use Rattle.std.proofs.lemmas.Grind.{flat_map-append}
 use Rattle.as_base.specs.declared.message.Msg.{Msg}
 use Rattle.as_base.specs.declared.row.Row.{Row}
 use Rattle.views.specs.Query.{Query}
+use Rattle.views.specs.Alike.{AreAlike}
 use Rattle.views.specs.View.{View}
 use Rattle.views.specs.Rows.{due_rows, due_to}
 use Rattle.views.specs.Message.{after, Follows}
 use Rattle.views.specs.IsView.{IsView}
+use Rattle.views.proofs.AlikeLaws.{due_to-alike}
 use Rattle.views.proofs.DueLaws.{due_by, due_to-after}
 use Rattle.row_text.specs.RowText.{row_text, text_of}
 
@@ -38,3 +40,7 @@ text_of-after v m n is f =
     ∙ ap text_of_rows (due_to-after v m n is f)
     ∙ flat_map-append row_text (due_to v n) (due_by v m n)
     ∙ ap (λ l. l ++ text_of_rows (due_by v m n)) (sym (text_of-due v n))
+
+-- alike queries have the same text, whatever else their views have
+pub text_of-alike : (v w : View) (n m : ℕ) → AreAlike v n w m → text_of v n ≡ text_of w m
+text_of-alike v w n m alike = text_of-due v n ∙ ap text_of_rows (due_to-alike v w n m alike) ∙ sym (text_of-due w m)

@@ -5,7 +5,7 @@ mod laws;
 mod reading;
 mod row;
 
-pub use laws::texts_only_grow;
+pub use laws::{alike_queries_have_equal_texts, texts_only_grow};
 pub use reading::read_row;
 pub use row::append_row;
 

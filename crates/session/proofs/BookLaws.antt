@@ -1,6 +1,7 @@
 -- What one more item does to the book, to its numbers and to the accepted records.
 use Rattle.std.proofs.Common.{◌≡◌, ℕ, ◌+◌, Bool, true, false, cond, Option, Some, None, List, [], ◌∷◌, ◌++◌, map, length, refl, sym, ap, ap₂, ◌∙◌, append_assoc, append-nil, arith}
 use Rattle.std.specs.List.{range_with_len}
+use Rattle.std.specs.Result.{result_ok}
 use Rattle.std.proofs.lemmas.Bool.{cond_both}
 use Rattle.std.proofs.lemmas.List.{length_push, length-map, map-append}
 use Rattle.as_base.specs.declared.config.Config.{Config}
@@ -9,7 +10,7 @@ use Rattle.as_base.specs.declared.item.Item.TheVariants.{Rec, Mark, End, Create,
 use Rattle.as_base.specs.declared.query.Plan.{Plan}
 use Rattle.views.specs.Query.{Query, opened, is_live, closed}
 use Rattle.session.specs.Acceptance.{changelog_time}
-use Rattle.session.specs.Planned.{plan_for, built}
+use Rattle.session.specs.Planned.{plan_for}
 use Rattle.session.specs.Book.{book, book_from, book_after, has_slot, with_query, numbers}
 use Rattle.session.specs.View.{record_of, records}
 use Rattle.views.proofs.NumberLaws.{range-push}
@@ -58,8 +59,8 @@ closed-in_order queries n at e = closed-numbers n at queries ∙ e ∙ ap (range
 
 book_after-in_order : (c : Config) (before : List Item) (queries : List Query) (x : Item) → IsInOrder queries → IsInOrder (book_after c before queries x)
 book_after-in_order c before queries (Create text) e =
-    cond_both (has_slot c queries) (with_query queries (built (plan_for c text)) (changelog_time c before)) queries IsInOrder
-    (λ free. with_query-in_order queries (built (plan_for c text)) (changelog_time c before) e) (λ full. e)
+    cond_both (has_slot c queries) (with_query queries (result_ok (plan_for c text)) (changelog_time c before)) queries IsInOrder
+    (λ free. with_query-in_order queries (result_ok (plan_for c text)) (changelog_time c before) e) (λ full. e)
 book_after-in_order c before queries (Delete n) e = closed-in_order queries n (changelog_time c before) e
 book_after-in_order c before queries (Rec g) e = e
 book_after-in_order c before queries (Mark s t) e = e

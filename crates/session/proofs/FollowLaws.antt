@@ -1,6 +1,7 @@
 -- Each message may follow the view before it, and so each view is one that messages make.
 use Rattle.std.proofs.Common.{◌≡◌, ℕ, ◌+◌, ◌^◌, ◌≤◌, ◌<◌, max, nat_lt, ◌||◌, Bool, true, false, true≢false, cond, inl, inr, ⊎_elim, Result, Ok, Err, Option, Some, None, is_none, List, [], ◌∷◌, ◌++◌, map, length, get_or, refl, sym, ap, ap₂, subst, ◌∙◌, arith}
 use Rattle.std.specs.List.{filter, list_any, AllByRecursion}
+use Rattle.std.specs.Result.{result_ok}
 use Rattle.std.proofs.lemmas.Bool.{ltb-false, cases_lt}
 use Rattle.std.proofs.lemmas.List.{length_push}
 use Rattle.as_base.specs.declared.config.Config.{Config}
@@ -32,13 +33,12 @@ use Rattle.session.specs.declared.session.Clock.{Clock}
 use Rattle.session.specs.Acceptance.{is_on, is_end, up_to_end, counting, time_of, mark_of, tick_after, greatest, front, top_mark, has_ended, watermark, seen_on, changelog_time}
 use Rattle.session.specs.Book.{book, refusal}
 use Rattle.session.specs.Message.{opening, message_of, message}
-use Rattle.session.specs.Planned.{plan_for, is_built, built}
+use Rattle.session.specs.Planned.{plan_for}
 use Rattle.session.specs.View.{record_of, records, view}
 use Rattle.session.proofs.BookLaws.{records-push}
 use Rattle.session.proofs.ClockLaws.{counts, counts-open, front-push, top_mark-push, seen_on-push, has_ended-push, top_mark-front, front-seen, clock-none}
 use Rattle.session.proofs.DecisionLaws.{accepted-open, accepted-message, refused-message}
 use Rattle.session.proofs.HistoryLaws.{by_push}
-use Rattle.session.proofs.OpenableLaws.{built_may_open}
 use Rattle.session.proofs.ViewLaws.{refused_or_not, same, view-message, view-same, deletion-accepted}
 
 -- ---- nothing falls
@@ -244,38 +244,30 @@ record-follows c h g all within e =
           (λ r t one. let a = t.reached in let b = ap (front c h) (place_injective r.given.stream g.stream one) in omega (arith, a, b, up)) (records c h) (records-taken c h all);
     }
 
-read-openable : (many : ℕ) (ast : Ast) (p : Plan) → IsTree ast → or_word (plan many ast) ≡ Ok p → is_built p.kind ≡ true → IsOpenable p
-read-openable many ast p tree e ok = go (plan many ast) refl e
+read-openable : (many : ℕ) (ast : Ast) (p : Plan) → IsTree ast → or_word (plan many ast) ≡ Ok p → IsOpenable p
+read-openable many ast p tree e = go (plan many ast) refl e
   where
     go : (r : Result Plan Misfit) → plan many ast ≡ r → or_word r ≡ Ok p → IsOpenable p
-    go (Ok q) is e = let both = plans_are_canonical many ast p tree (is ∙ ap (λ w. elim w [ Ok v ↦ Ok v | Err u ↦ Ok q ]) e) in built_may_open p ok both.0 both.1
+    go (Ok q) is e = let both = plans_are_canonical many ast p tree (is ∙ ap (λ w. elim w [ Ok v ↦ Ok v | Err u ↦ Ok q ]) e) in record { canonical = both.0; fits = both.1 }
     go (Err m) is e = absurd (cc e)
 
-built-is : (r : Result Plan Word) (p : Plan) → built r ≡ Some p → (r ≡ Ok p) × (is_built p.kind ≡ true)
-built-is (Err w) p e = absurd (true≢false (ap is_none e))
-built-is (Ok q) p e = go (is_built q.kind) refl e
+-- the plan of a text may be opened
+planned-openable : (c : Config) (text : List ℕ) (p : Plan) → plan_for c text ≡ Ok p → IsOpenable p
+planned-openable c text p e = go (read_text text) refl e
   where
-    go : (b : Bool) → is_built q.kind ≡ b → cond b (Some q) None ≡ Some p → (◌≡◌ {A = Result Plan Word} (Ok q) (Ok p)) × (is_built p.kind ≡ true)
-    go true is e = let one = same e in (ap Ok one, ap (λ (p : Plan). is_built p.kind) (sym one) ∙ is)
-    go false is e = absurd (true≢false (ap is_none e))
+    go : (r : Result Ast ℕ) → read_text text ≡ r → plan_of_reading c.streams r ≡ Ok p → IsOpenable p
+    go (Ok ast) is e = let tree = (one_tree_told (text_words text) ast).1 is in read-openable c.streams ast p (tree.0, (tree.1).0, tree.2) e
+    go (Err place) is e = absurd (cc e)
 
--- the plan of a text that is built may be opened
-pub built-openable : (c : Config) (text : List ℕ) (p : Plan) → built (plan_for c text) ≡ Some p → IsOpenable p
-built-openable c text p e = let planned = built-is (plan_for c text) p e in go (read_text text) refl planned.0 planned.1
-  where
-    go : (r : Result Ast ℕ) → read_text text ≡ r → plan_of_reading c.streams r ≡ Ok p → is_built p.kind ≡ true → IsOpenable p
-    go (Ok ast) is e ok = let tree = (one_tree_told (text_words text) ast).1 is in read-openable c.streams ast p (tree.0, (tree.1).0, tree.2) e ok
-    go (Err place) is e ok = absurd (cc e)
-
-opened-follows : (c : Config) (h : List Item) (text : List ℕ) (p : Option Plan) (m : Msg) → AllByRecursion InRange h → built (plan_for c text) ≡ p → opening c h p ≡ Some m → Follows (view c h) m
-opened-follows c h text None m all is e = absurd (true≢false (ap is_none e))
-opened-follows c h text (Some plan) m all is e = subst (Follows (view c h)) (same e) (change-follows c h all, refl, built-openable c text plan is)
+opened-follows : (c : Config) (h : List Item) (text : List ℕ) (p : Result Plan Word) (m : Msg) → AllByRecursion InRange h → plan_for c text ≡ p → opening c h (result_ok p) ≡ Some m → Follows (view c h) m
+opened-follows c h text (Err w) m all is e = absurd (true≢false (ap is_none e))
+opened-follows c h text (Ok plan) m all is e = subst (Follows (view c h)) (same e) (change-follows c h all, refl, planned-openable c text plan is)
 
 accepted-follows : (c : Config) (h : List Item) (x : Item) (m : Msg) → AllByRecursion InRange h → InRange x → refusal c h x ≡ None → message_of c h x ≡ Some m → Follows (view c h) m
 accepted-follows c h (Rec g) m all within e is = subst (Follows (view c h)) (same is) (record-follows c h g all within e)
 accepted-follows c h (Mark s t) m all within e is = subst (Follows (view c h)) (same is) (marks-follow c h (Mark s t) all within)
 accepted-follows c h (End s) m all within e is = subst (Follows (view c h)) (same is) (marks-follow c h (End s) all within)
-accepted-follows c h (Create text) m all within e is = opened-follows c h text (built (plan_for c text)) m all refl is
+accepted-follows c h (Create text) m all within e is = opened-follows c h text (plan_for c text) m all refl is
 accepted-follows c h (Delete n) m all within e is = subst (Follows (view c h)) (same is) (change-follows c h all, deletion-accepted (list_any (is_live n) (book c h)) e)
 accepted-follows c h (Bad cause) m all within e is = absurd (true≢false (ap is_none is))
 

@@ -1,6 +1,7 @@
 -- Holders and their seats: what one more item does to them, and that the slots that are held are those of the seats.
 use Rattle.std.proofs.Common.{◌≡◌, ℕ, ◌+◌, ◌<◌, ◌≤◌, zero, suc, eqb, nat_lt, Bool, true, false, cond, not, ◌&&◌, ◌||◌, Option, Some, None, unwrap_or, List, [], ◌∷◌, ◌++◌, map, length, get_or, set, replicate, count_by, refl, sym, ap, ap₂, subst, subst₂, ◌∙◌, append-nil, append_assoc, arith, length-set}
 use Rattle.std.specs.List.{filter, flat_map, list_any, position, position_or_len, remove, range_with_len}
+use Rattle.std.specs.Result.{result_ok}
 use Rattle.std.proofs.lemmas.Bool.{ne_eqb, eqb-true, lt-ltb, ltb-true}
 use Rattle.std.proofs.lemmas.Grind.{flat_map-append}
 use Rattle.std.proofs.lemmas.List.{length_push, length-map, map-append, ext_get_or}
@@ -19,7 +20,7 @@ use Rattle.slot_alloc.proofs.SlotLaws.{least_free-is, live_count-set_on, live_co
 use Rattle.views.specs.Query.{Query, opened, is_live as is_live_query, closed}
 use Rattle.session.specs.declared.session.Seat.{Seat}
 use Rattle.session.specs.Acceptance.{changelog_time}
-use Rattle.session.specs.Planned.{plan_for, built}
+use Rattle.session.specs.Planned.{plan_for}
 use Rattle.session.specs.Book.{book, book_from, book_after, has_slot, with_query}
 use Rattle.session.specs.Holders.{Holder, queries_of, is_held, slots_of, least_free, with_holder, closed_holder, holders_after, holders_from, holders, slot_of}
 use Rattle.session.specs.Seats.{AreSeated}
@@ -47,8 +48,8 @@ queries_of-closed n at (h ∷ hs) = ap (λ l. closed n at h.query ∷ l) (querie
 holders_after-queries : (c : Config) (before : List Item) (hs : List Holder) (x : Item) → queries_of (holders_after c before hs x) ≡ book_after c before (queries_of hs) x
 holders_after-queries c before hs (Create text) = go (has_slot c (queries_of hs))
   where
-    go : (b : Bool) → queries_of (cond b (with_holder c hs (built (plan_for c text)) (changelog_time c before)) hs) ≡ cond b (with_query (queries_of hs) (built (plan_for c text)) (changelog_time c before)) (queries_of hs)
-    go true = queries_of-with c hs (built (plan_for c text)) (changelog_time c before)
+    go : (b : Bool) → queries_of (cond b (with_holder c hs (result_ok (plan_for c text)) (changelog_time c before)) hs) ≡ cond b (with_query (queries_of hs) (result_ok (plan_for c text)) (changelog_time c before)) (queries_of hs)
+    go true = queries_of-with c hs (result_ok (plan_for c text)) (changelog_time c before)
     go false = refl
 holders_after-queries c before hs (Delete n) = queries_of-closed n (changelog_time c before) hs
 holders_after-queries c before hs (Rec g) = refl
@@ -345,8 +346,8 @@ holders-seated c h = by_push (λ l. Seated c (holders c l)) none more h
     step : (before : List Item) (x : Item) → Seated c (holders c before) → Seated c (holders_after c before (holders c before) x)
     step before (Create text) s = at (has_slot c (queries_of (holders c before))) refl
       where
-        at : (b : Bool) → has_slot c (queries_of (holders c before)) ≡ b → Seated c (cond b (with_holder c (holders c before) (built (plan_for c text)) (changelog_time c before)) (holders c before))
-        at true free = Seated-opened c (holders c before) (built (plan_for c text)) (changelog_time c before) s free
+        at : (b : Bool) → has_slot c (queries_of (holders c before)) ≡ b → Seated c (cond b (with_holder c (holders c before) (result_ok (plan_for c text)) (changelog_time c before)) (holders c before))
+        at true free = Seated-opened c (holders c before) (result_ok (plan_for c text)) (changelog_time c before) s free
         at false full = s
     step before (Delete n) s = Seated-closed c (holders c before) n (changelog_time c before) s (numbers-once c before n)
     step before (Rec g) s = s

@@ -8,7 +8,6 @@ pub mod DecisionLaws
 pub mod ShutLaws
 pub mod StepLaws
 pub mod ViewLaws
-pub mod OpenableLaws
 pub mod FollowLaws
 pub mod TextLaws
 pub mod OutputLaws

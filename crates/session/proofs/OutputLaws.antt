@@ -1,6 +1,7 @@
 -- What an item adds to the text of an output: only an accepted watermark or end adds any. The rows of passed windows stay.
 use Rattle.std.proofs.Common.{◌≡◌, ℕ, ◌&&◌, Bool, true, false, true≢false, cond, Option, Some, None, List, [], ◌∷◌, ◌++◌, refl, sym, ap, ◌∙◌, append-nil}
 use Rattle.std.specs.List.{AllByRecursion}
+use Rattle.std.specs.Result.{result_ok}
 use Rattle.as_words.specs.Prefix.{IsPrefix}
 use Rattle.as_base.specs.Range.{InRange}
 use Rattle.as_base.specs.declared.config.Config.{Config}
@@ -16,7 +17,7 @@ use Rattle.row_text.specs.RowText.{text_of as text_by}
 use Rattle.row_text.proofs.TextLaws.{text_of_rows, text_of-after}
 use Rattle.session.specs.Book.{accepts}
 use Rattle.session.specs.Message.{opening, message_of, message}
-use Rattle.session.specs.Planned.{plan_for, built}
+use Rattle.session.specs.Planned.{plan_for}
 use Rattle.session.specs.Prints.{is_mark_or_end, prints}
 use Rattle.session.specs.View.{view, text_of}
 use Rattle.session.proofs.FollowLaws.{message-follows, view-is}
@@ -48,7 +49,7 @@ due_of-other : (c : Config) (h : List Item) (x : Item) (n : ℕ) → is_mark_or_
 due_of-other c h (Rec g) n other = refl
 due_of-other c h (Mark s t) n other = absurd (true≢false other)
 due_of-other c h (End s) n other = absurd (true≢false other)
-due_of-other c h (Create text) n other = due_of-opening c h (built (plan_for c text)) n
+due_of-other c h (Create text) n other = due_of-opening c h (result_ok (plan_for c text)) n
 due_of-other c h (Delete m) n other = refl
 due_of-other c h (Bad cause) n other = refl
 

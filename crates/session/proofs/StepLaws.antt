@@ -1,6 +1,7 @@
 -- What each item does to what a session stands for, and what is decided of it.
 use Rattle.std.proofs.Common.{◌≡◌, ℕ, ◌+◌, ◌^◌, ◌<◌, max, ◌||◌, nat_lt, eqb, Bool, true, false, true≢false, not, cond, ⊎_elim, Result, Ok, Err, Some, None, is_none, unwrap_or, List, [], ◌∷◌, ◌++◌, map, length, get_or, set, replicate, refl, sym, ap, ap₂, ◌∙◌, arith}
 use Rattle.std.specs.List.{flat_map, list_any, position, position_or_len, remove}
+use Rattle.std.specs.Result.{result_ok, result_err}
 use Rattle.std.proofs.lemmas.Bool.{ltb-true, ltb-false, lt-ltb, le-ltb}
 use Rattle.std.proofs.lemmas.List.{length_push, length-map}
 use Rattle.as_base.specs.declared.config.Config.{Config}
@@ -25,7 +26,7 @@ use Rattle.session.specs.declared.session.Seat.{Seat}
 use Rattle.session.specs.declared.session.Session.{Session}
 use Rattle.session.specs.declared.decision.Decision.TheVariants.{Pass, Told, Acted}
 use Rattle.session.specs.Acceptance.{front, top_mark, has_ended, changelog_time, seen_on, greatest, tick_after}
-use Rattle.session.specs.Planned.{plan_for, is_built, built, unplanned}
+use Rattle.session.specs.Planned.{plan_for}
 use Rattle.session.specs.Book.{book, has_slot, refusal, refusal_of_cause, creation_refusal}
 use Rattle.session.specs.Holders.{Holder, queries_of, slots_of, least_free, with_holder, closed_holder, holders}
 use Rattle.session.specs.Decision.{IsDecided}
@@ -197,21 +198,12 @@ bad-step {c} {h} cause s = refused-step (Bad cause) (refusal_of_cause cause) s r
 
 -- ---- creations
 
--- a query that is refused whatever slots there are has no plan that is built
-pub unplanned-none : (p : Result Plan Word) (w : Word) → unplanned p ≡ Some w → built p ≡ None
+-- a text that is refused has no plan
+pub unplanned-none : (p : Result Plan Word) (w : Word) → result_err p ≡ Some w → result_ok p ≡ None
 unplanned-none (Err u) w e = refl
-unplanned-none (Ok plan) w e = go (is_built plan.kind) e
-  where
-    go : (b : Bool) → cond b None (Some word.Later) ≡ Some w → cond b (Some plan) None ≡ None
-    go true e = absurd (true≢false (ap is_none e))
-    go false e = refl
+unplanned-none (Ok plan) w e = absurd (true≢false (ap is_none e))
 
--- one that is not has one
-pub unplanned-some : (p : Result Plan Word) (plan : Plan) → p ≡ Ok plan → is_built plan.kind ≡ true → (unplanned p ≡ None) × (built p ≡ Some plan)
-unplanned-some p plan is ok =
-    (ap unplanned is ∙ ap (λ b. cond b None (Some word.Later)) ok, ap built is ∙ ap (λ b. cond b (Some plan) None) ok)
-
-pub holders-unplanned : (c : Config) (h : List Item) (text : List ℕ) → built (plan_for c text) ≡ None → holders c (h ++ Create text ∷ []) ≡ holders c h
+pub holders-unplanned : (c : Config) (h : List Item) (text : List ℕ) → result_ok (plan_for c text) ≡ None → holders c (h ++ Create text ∷ []) ≡ holders c h
 holders-unplanned c h text none =
     holders-push c h (Create text)
     ∙ ap (λ p. cond (has_slot c (queries_of (holders c h))) (with_holder c (holders c h) p (changelog_time c h)) (holders c h)) none
@@ -220,18 +212,18 @@ holders-unplanned c h text none =
 pub holders-full : (c : Config) (h : List Item) (text : List ℕ) → has_slot c (book c h) ≡ false → holders c (h ++ Create text ∷ []) ≡ holders c h
 holders-full c h text full =
     holders-push c h (Create text)
-    ∙ ap (λ b. cond b (with_holder c (holders c h) (built (plan_for c text)) (changelog_time c h)) (holders c h)) (ap (has_slot c) (holders-queries c h) ∙ full)
+    ∙ ap (λ b. cond b (with_holder c (holders c h) (result_ok (plan_for c text)) (changelog_time c h)) (holders c h)) (ap (has_slot c) (holders-queries c h) ∙ full)
 
-holders-opened : (c : Config) (h : List Item) (text : List ℕ) (plan : Plan) → has_slot c (book c h) ≡ true → built (plan_for c text) ≡ Some plan
+holders-opened : (c : Config) (h : List Item) (text : List ℕ) (plan : Plan) → has_slot c (book c h) ≡ true → result_ok (plan_for c text) ≡ Some plan
     → holders c (h ++ Create text ∷ []) ≡ with_holder c (holders c h) (Some plan) (changelog_time c h)
 holders-opened c h text plan free planned =
     holders-push c h (Create text)
-    ∙ ap (λ b. cond b (with_holder c (holders c h) (built (plan_for c text)) (changelog_time c h)) (holders c h)) (ap (has_slot c) (holders-queries c h) ∙ free)
+    ∙ ap (λ b. cond b (with_holder c (holders c h) (result_ok (plan_for c text)) (changelog_time c h)) (holders c h)) (ap (has_slot c) (holders-queries c h) ∙ free)
     ∙ ap (λ p. with_holder c (holders c h) p (changelog_time c h)) planned
 
--- a creation that is refused by its text, or since it is yet to be built
+-- a creation that is refused by its text
 pub unplanned-step : {c : Config} {h : List Item} {streams items : ℕ} {clocks : List Clock} {changelog made : ℕ} {slots : List Bool} {live : List Seat} (text : List ℕ) (w : Word) → Stands c h streams items clocks changelog made slots live
-    → unplanned (plan_for c text) ≡ Some w
+    → result_err (plan_for c text) ≡ Some w
     → Stands c (h ++ Create text ∷ []) streams (items + 1) clocks changelog made slots live × IsDecided c h (Create text) (Told (record { line = items + 1; word = w }))
 unplanned-step {c} {h} text w s why =
     refused-step (Create text) w s (ap (λ o. creation_refusal o (has_slot c (book c h))) why) (still-create c h text)
@@ -247,22 +239,21 @@ has_slot-live {c} {h} s =
 
 -- a creation where each slot is held
 pub full-step : {c : Config} {h : List Item} {streams items : ℕ} {clocks : List Clock} {changelog made : ℕ} {slots : List Bool} {live : List Seat} (text : List ℕ) (plan : Plan) → Stands c h streams items clocks changelog made slots live
-    → plan_for c text ≡ Ok plan → is_built plan.kind ≡ true → position (λ on. not on) slots ≡ None
+    → plan_for c text ≡ Ok plan → position (λ on. not on) slots ≡ None
     → Stands c (h ++ Create text ∷ []) streams (items + 1) clocks changelog made slots live × IsDecided c h (Create text) (Told (record { line = items + 1; word = word.Full }))
-full-step {c} {h} {streams} {items} {clocks} {changelog} {made} {slots} text plan s is ok none =
+full-step {c} {h} {streams} {items} {clocks} {changelog} {made} {slots} text plan s is none =
     let full = has_slot-live s ∙ le-ltb (live_count slots) (length slots) (let e = live_count-full slots (sym none) in omega (arith, e)) in
-    refused-step (Create text) word.Full s (ap₂ creation_refusal (unplanned-some (plan_for c text) plan is ok).0 full) (still-create c h text) (holders-full c h text full)
+    refused-step (Create text) word.Full s (ap₂ creation_refusal (ap result_err is) full) (still-create c h text) (holders-full c h text full)
 
 -- a creation where a slot is free, which gets the least
 pub open-step : {c : Config} {h : List Item} {streams items : ℕ} {clocks : List Clock} {changelog made : ℕ} {slots : List Bool} {live : List Seat} (text : List ℕ) (plan : Plan) (slot : ℕ) → Stands c h streams items clocks changelog made slots live
-    → plan_for c text ≡ Ok plan → is_built plan.kind ≡ true → position (λ on. not on) slots ≡ Some slot
+    → plan_for c text ≡ Ok plan → position (λ on. not on) slots ≡ Some slot
     → Stands c (h ++ Create text ∷ []) streams (items + 1) clocks changelog (made + 1) (set slots slot true) (live ++ (record { n = made + 1; slot = slot }) ∷ [])
     × IsDecided c h (Create text) (Acted (record { line = items + 1; word = word.Created (made + 1) changelog }) (Opened (made + 1) slot changelog plan))
-open-step {c} {h} {streams} {items} {clocks} {changelog} {made} {slots} {live} text plan slot s is ok free =
-    let planned = unplanned-some (plan_for c text) plan is ok in
+open-step {c} {h} {streams} {items} {clocks} {changelog} {made} {slots} {live} text plan slot s is free =
     let some = has_slot-live s ∙ lt-ltb (live_count slots) (length slots) (live_count-lt slots slot (sym free)) in
     let hs = holders c h in
-    let new : holders c (h ++ Create text ∷ []) ≡ with_holder c hs (Some plan) (changelog_time c h) = holders-opened c h text plan some planned.1 in
+    let new : holders c (h ++ Create text ∷ []) ≡ with_holder c hs (Some plan) (changelog_time c h) = holders-opened c h text plan some (ap result_ok is) in
     let least : least_free c hs ≡ slot = ap (λ l. unwrap_or (position (λ on. not on) l) 0) (sym s.slots_are) ∙ ap (λ o. unwrap_or o 0) free in
     let many : length hs ≡ made = sym (length-map hs (λ (k : Holder). k.query)) ∙ ap length (holders-queries c h) ∙ sym s.made_is in
     let still = still-create c h text in (
@@ -281,9 +272,9 @@ open-step {c} {h} {streams} {items} {clocks} {changelog} {made} {slots} {live} t
             ∙ ap seats_of (sym new);
       },
       acted c h (Create text) (word.Created (made + 1) changelog) (Opened (made + 1) slot changelog plan) (items + 1) (ap (λ n. n + 1) s.lines)
-          (ap₂ creation_refusal planned.0 some)
+          (ap₂ creation_refusal (ap result_err is) some)
           (ap₂ (λ n at. Some (word.Created (n + 1) at)) (sym s.made_is) (sym s.time_is))
-          (ap (opening c h) planned.1
+          (ap (opening c h) (ap result_ok is)
           ∙ ap₂ (λ n i. Some (msg.Change (Opened (n + 1) i (changelog_time c h) plan))) (sym s.made_is) least
           ∙ ap (λ at. Some (msg.Change (Opened (made + 1) slot at plan))) (sym s.time_is)),
     )

@@ -1,6 +1,7 @@
 -- The view after an item: what its message makes of the view before it, or that view where it has none.
 use Rattle.std.proofs.Common.{◌≡◌, ℕ, ◌+◌, ◌^◌, max, ◌||◌, Bool, true, false, true≢false, not, cond, ◌⊎◌, inl, inr, ⊎_elim, arith, Result, Ok, Err, Option, Some, None, is_none, unwrap_or, List, [], ◌∷◌, ◌++◌, map, length, refl, sym, ap, ap₂, ◌∙◌, append-nil}
 use Rattle.std.specs.List.{list_any}
+use Rattle.std.specs.Result.{result_ok, result_err}
 use Rattle.std.proofs.lemmas.List.{map-append}
 use Rattle.as_base.specs.declared.config.Config.{Config}
 use Rattle.as_base.specs.declared.stream.StreamId.{StreamId}
@@ -29,7 +30,7 @@ use Rattle.session.specs.Book.{book, has_slot, with_query, numbers, stream_refus
 use Rattle.session.specs.Holders.{holders, queries_of}
 use Rattle.session.specs.Message.{opening, message_of, message}
 use Rattle.session.specs.Outcome.{created_by, created}
-use Rattle.session.specs.Planned.{plan_for, is_built, built, unplanned}
+use Rattle.session.specs.Planned.{plan_for}
 use Rattle.session.specs.View.{record_of, records, view}
 use Rattle.session.proofs.BookLaws.{book-push, records-push, closed-numbers}
 use Rattle.session.proofs.ClockLaws.{IsStill, counts, clocks-still, has_ended-push, top_mark-push}
@@ -55,7 +56,7 @@ refused-holders c h (Mark s t) w e = holders-push c h (Mark s t)
 refused-holders c h (End s) w e = holders-push c h (End s)
 refused-holders c h (Create text) w e =
     ⊎_elim (λ why. holders-unplanned c h text (unplanned-none (plan_for c text) w why)) (λ full. holders-full c h text full)
-    (creation-refused (unplanned (plan_for c text)) (has_slot c (book c h)) w e)
+    (creation-refused (result_err (plan_for c text)) (has_slot c (book c h)) w e)
 refused-holders c h (Delete n) w e =
     holders-push c h (Delete n)
     ∙ closed_holders-dead n (changelog_time c h) (holders c h) (ap (list_any (is_live n)) (holders-queries c h) ∙ deletion-refused (list_any (is_live n) (book c h)) w e)
@@ -126,13 +127,13 @@ pub deletion-accepted : (b : Bool) → cond b None (Some word.Unknown) ≡ None 
 deletion-accepted true e = refl
 deletion-accepted false e = absurd (true≢false (sym (ap is_none e)))
 
-opening-view : (c : Config) (h : List Item) (text : List ℕ) (p : Option Plan) (m : Msg) → built (plan_for c text) ≡ p → has_slot c (book c h) ≡ true → opening c h p ≡ Some m
+opening-view : (c : Config) (h : List Item) (text : List ℕ) (p : Option Plan) (m : Msg) → result_ok (plan_for c text) ≡ p → has_slot c (book c h) ≡ true → opening c h p ≡ Some m
     → view c (h ++ Create text ∷ []) ≡ after (view c h) m
 opening-view c h text None m is free e = absurd (true≢false (ap is_none e))
 opening-view c h text (Some plan) m is free e =
     view-of
     (book-push c h (Create text)
-    ∙ ap (λ b. cond b (with_query (book c h) (built (plan_for c text)) (changelog_time c h)) (book c h)) free
+    ∙ ap (λ b. cond b (with_query (book c h) (result_ok (plan_for c text)) (changelog_time c h)) (book c h)) free
     ∙ ap (λ p. with_query (book c h) p (changelog_time c h)) is)
     (same-records c h (Create text) refl)
     (same-marks c h (Create text) (still-create c h text))
@@ -148,7 +149,7 @@ accepted-view c h (Rec g) m e is =
 accepted-view c h (Mark s t) m e is = view-of (book-push c h (Mark s t)) (same-records c h (Mark s t) refl) refl ∙ ap (after (view c h)) (same is)
 accepted-view c h (End s) m e is = view-of (book-push c h (End s)) (same-records c h (End s) refl) refl ∙ ap (after (view c h)) (same is)
 accepted-view c h (Create text) m e is =
-    opening-view c h text (built (plan_for c text)) m refl (creation-accepted (unplanned (plan_for c text)) (has_slot c (book c h)) e).1 is
+    opening-view c h text (result_ok (plan_for c text)) m refl (creation-accepted (result_err (plan_for c text)) (has_slot c (book c h)) e).1 is
 accepted-view c h (Delete n) m e is =
     view-of (book-push c h (Delete n)) (same-records c h (Delete n) refl) (same-marks c h (Delete n) (still-delete c h n)) ∙ ap (after (view c h)) (same is)
 accepted-view c h (Bad cause) m e is = absurd (true≢false (ap is_none is))
@@ -166,14 +167,10 @@ view-message c h x m is =
     (λ e. accepted-view c h x m e (sym (accepted-message c h x e) ∙ is))
     (refused_or_not (refusal c h x))
 
--- a query that is not refused by its text has a plan that is built
-pub unplanned-built : (p : Result Plan Word) → unplanned p ≡ None → built p ≡ None → ⊥
-unplanned-built (Err w) e none = true≢false (sym (ap is_none e))
-unplanned-built (Ok plan) e none = go (is_built plan.kind) e none
-  where
-    go : (b : Bool) → cond b None (Some word.Later) ≡ None → cond b (Some plan) None ≡ None → ⊥
-    go true e none = true≢false (sym (ap is_none none))
-    go false e none = true≢false (sym (ap is_none e))
+-- a text that is not refused has a plan
+planned-or-not : (p : Result Plan Word) → result_err p ≡ None → result_ok p ≡ None → ⊥
+planned-or-not (Err w) e none = true≢false (sym (ap is_none e))
+planned-or-not (Ok plan) e none = true≢false (sym (ap is_none none))
 
 opening-none : (c : Config) (h : List Item) (p : Option Plan) → opening c h p ≡ None → p ≡ None
 opening-none c h None e = refl
@@ -185,7 +182,7 @@ accepted-some c h (Rec g) e none = true≢false (sym (ap is_none none))
 accepted-some c h (Mark s t) e none = true≢false (sym (ap is_none none))
 accepted-some c h (End s) e none = true≢false (sym (ap is_none none))
 accepted-some c h (Create text) e none =
-    unplanned-built (plan_for c text) (creation-accepted (unplanned (plan_for c text)) (has_slot c (book c h)) e).0 (opening-none c h (built (plan_for c text)) none)
+    planned-or-not (plan_for c text) (creation-accepted (result_err (plan_for c text)) (has_slot c (book c h)) e).0 (opening-none c h (result_ok (plan_for c text)) none)
 accepted-some c h (Delete n) e none = true≢false (sym (ap is_none none))
 accepted-some c h (Bad cause) e none = true≢false (sym (ap is_none e))
 
@@ -201,19 +198,15 @@ created_of None = []
 created_of (Some w) = created_by w
 
 -- no refusal of a text tells of a query
-unplanned-quiet : (many : ℕ) (reading : Result Ast ℕ) → created_of (unplanned (plan_of_reading many reading)) ≡ []
+unplanned-quiet : (many : ℕ) (reading : Result Ast ℕ) → created_of (result_err (plan_of_reading many reading)) ≡ []
 unplanned-quiet many (Err place) = refl
 unplanned-quiet many (Ok tree) = go (plan many tree)
   where
-    yet : (b : Bool) → created_of (cond b None (Some word.Later)) ≡ []
-    yet true = refl
-    yet false = refl
-
-    go : (p : Result Plan Misfit) → created_of (unplanned (or_word p)) ≡ []
+    go : (p : Result Plan Misfit) → created_of (result_err (or_word p)) ≡ []
     go (Err Misfit.Stranger) = refl
     go (Err Misfit.Twin) = refl
     go (Err Misfit.Window) = refl
-    go (Ok plan) = yet (is_built plan.kind)
+    go (Ok plan) = refl
 
 stream-quiet : (c : Config) (h : List Item) (s : StreamId) (behind : Bool) (last : Word) → created_by last ≡ [] → created_of (stream_refusal c h s behind last) ≡ []
 stream-quiet c h s behind last e = go (is_configured c s) (has_ended c h s) behind
@@ -229,7 +222,7 @@ refused-quiet : (c : Config) (h : List Item) (x : Item) → created_of (refusal 
 refused-quiet c h (Rec g) = stream-quiet c h g.stream _ word.Late refl
 refused-quiet c h (Mark s t) = stream-quiet c h s _ word.Back refl
 refused-quiet c h (End s) = stream-quiet c h s false word.Ended refl
-refused-quiet c h (Create text) = go (unplanned (plan_for c text)) (has_slot c (book c h)) (unplanned-quiet c.streams (read_text text))
+refused-quiet c h (Create text) = go (result_err (plan_for c text)) (has_slot c (book c h)) (unplanned-quiet c.streams (read_text text))
   where
     go : (o : Option Word) (free : Bool) → created_of o ≡ [] → created_of (creation_refusal o free) ≡ []
     go (Some w) free e = e
@@ -248,10 +241,10 @@ accepted-numbers c h (Rec g) e = ap (map (λ (q : Query). q.n)) (book-push c h (
 accepted-numbers c h (Mark s t) e = ap (map (λ (q : Query). q.n)) (book-push c h (Mark s t)) ∙ sym (append-nil (numbers c h))
 accepted-numbers c h (End s) e = ap (map (λ (q : Query). q.n)) (book-push c h (End s)) ∙ sym (append-nil (numbers c h))
 accepted-numbers c h (Create text) e =
-    let free = creation-accepted (unplanned (plan_for c text)) (has_slot c (book c h)) e in
+    let free = creation-accepted (result_err (plan_for c text)) (has_slot c (book c h)) e in
     ap (map (λ (q : Query). q.n))
-    (book-push c h (Create text) ∙ ap (λ b. cond b (with_query (book c h) (built (plan_for c text)) (changelog_time c h)) (book c h)) free.1)
-    ∙ go (built (plan_for c text)) (unplanned-built (plan_for c text) free.0)
+    (book-push c h (Create text) ∙ ap (λ b. cond b (with_query (book c h) (result_ok (plan_for c text)) (changelog_time c h)) (book c h)) free.1)
+    ∙ go (result_ok (plan_for c text)) (planned-or-not (plan_for c text) free.0)
   where
     go : (p : Option Plan) → (p ≡ None → ⊥) → map (λ (q : Query). q.n) (with_query (book c h) p (changelog_time c h)) ≡ numbers c h ++ (length (book c h) + 1) ∷ []
     go None some = absurd (some refl)

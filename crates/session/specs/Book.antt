@@ -1,6 +1,7 @@
 -- The queries that a list of items made, and the word that each item is refused by.
 use Rattle.std.specs.Prelude.{ℕ, ◌+◌, not, nat_lt, if◌then◌else◌, Bool, false, Option, Some, None, is_none, List, [], ◌∷◌, ◌++◌, map, length, count_by}
 use Rattle.std.specs.List.{list_any}
+use Rattle.std.specs.Result.{result_ok, result_err}
 use Rattle.as_base.specs.declared.config.Config.{Config}
 use Rattle.as_base.specs.declared.stream.StreamId.{StreamId}
 use Rattle.as_base.specs.declared.item.Cause.{Cause}
@@ -13,7 +14,7 @@ use Rattle.as_base.specs.declared.answer.Word.TheVariants as word
 use Rattle.as_base.specs.Config.{is_configured}
 use Rattle.views.specs.Query.{Query, opened, is_live, closed}
 use Rattle.session.specs.Acceptance.{front, top_mark, has_ended, changelog_time}
-use Rattle.session.specs.Planned.{plan_for, built, unplanned}
+use Rattle.session.specs.Planned.{plan_for}
 
 -- fewer queries live than there are slots
 abbrev pub has_slot : Config → List Query → Bool
@@ -26,7 +27,7 @@ with_query book (Some plan) at = book ++ opened (length book + 1) plan at ∷ []
 
 -- the book after one more item, where `before` came before it
 abbrev pub book_after : Config → List Item → List Query → Item → List Query
-book_after c before book (Create text) = if has_slot c book then with_query book (built (plan_for c text)) (changelog_time c before) else book
+book_after c before book (Create text) = if has_slot c book then with_query book (result_ok (plan_for c text)) (changelog_time c before) else book
 book_after c before book (Delete n) = map (closed n (changelog_time c before)) book
 book_after c before book (Rec g) = book
 book_after c before book (Mark s t) = book
@@ -68,7 +69,7 @@ abbrev pub refusal : Config → List Item → Item → Option Word
 refusal c h (Rec g) = stream_refusal c h g.stream (nat_lt g.time (front c h g.stream)) word.Late
 refusal c h (Mark s t) = stream_refusal c h s (nat_lt t (top_mark c h s)) word.Back
 refusal c h (End s) = stream_refusal c h s false word.Ended
-refusal c h (Create text) = creation_refusal (unplanned (plan_for c text)) (has_slot c (book c h))
+refusal c h (Create text) = creation_refusal (result_err (plan_for c text)) (has_slot c (book c h))
 refusal c h (Delete n) = if list_any (is_live n) (book c h) then None else Some word.Unknown
 refusal c h (Bad cause) = Some (refusal_of_cause cause)
 

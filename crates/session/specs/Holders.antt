@@ -1,13 +1,14 @@
 -- Which slot each query holds.
 use Rattle.std.specs.Prelude.{ℕ, ◌+◌, ◌==◌, ◌&&◌, not, position, unwrap_or, if◌then◌else◌, Bool, Option, Some, None, List, [], ◌∷◌, ◌++◌, map, length}
 use Rattle.std.specs.List.{list_any, range_with_len}
+use Rattle.std.specs.Result.{result_ok}
 use Rattle.as_base.specs.declared.config.Config.{Config}
 use Rattle.as_base.specs.declared.item.Item.{Item}
 use Rattle.as_base.specs.declared.item.Item.TheVariants.{Rec, Mark, End, Create, Delete, Bad}
 use Rattle.as_base.specs.declared.query.Plan.{Plan}
 use Rattle.views.specs.Query.{Query, opened, closed}
 use Rattle.session.specs.Acceptance.{changelog_time}
-use Rattle.session.specs.Planned.{plan_for, built}
+use Rattle.session.specs.Planned.{plan_for}
 use Rattle.session.specs.Book.{has_slot}
 
 -- a query and the slot that it was given; another may have the slot once it is closed
@@ -43,7 +44,7 @@ closed_holder n at h = record { query = closed n at h.query; slot = h.slot }
 -- the holders after one more item, where `before` came before it
 abbrev pub holders_after : Config → List Item → List Holder → Item → List Holder
 holders_after c before holders (Create text) =
-    if has_slot c (queries_of holders) then with_holder c holders (built (plan_for c text)) (changelog_time c before) else holders
+    if has_slot c (queries_of holders) then with_holder c holders (result_ok (plan_for c text)) (changelog_time c before) else holders
 holders_after c before holders (Delete n) = map (closed_holder n (changelog_time c before)) holders
 holders_after c before holders (Rec g) = holders
 holders_after c before holders (Mark s t) = holders

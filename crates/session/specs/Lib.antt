@@ -19,6 +19,7 @@ pub use Rattle.as_base.specs.declared.item.Given
 pub use Rattle.as_base.specs.declared.item.Item
 pub use Rattle.as_base.specs.declared.message.Msg
 pub use Rattle.as_base.specs.declared.stream.StreamId
+pub use Rattle.views.specs.Alike
 pub use Rattle.views.specs.IsView
 pub use Rattle.views.specs.Message.{after, Follows}
 pub use Rattle.views.specs.Query

@@ -5,6 +5,7 @@ ghost use Rattle.as_base.specs.Range.{InRange};
 ghost use Rattle.as_base.specs.declared.config.Config.{Config};
 ghost use Rattle.as_base.specs.declared.item.Item.{Item};
 ghost use Rattle.as_base.specs.declared.message.Msg.{Msg};
+ghost use Rattle.views.specs.Alike.{AreAlike};
 ghost use Rattle.views.specs.IsView.{IsView};
 ghost use Rattle.views.specs.Message.{after, Follows};
 ghost use Rattle.views.specs.Query.{Query};
@@ -66,4 +67,11 @@ pub fn passed_windows_stay()
     ensures { (c : Config) (h : List Item) (x : Item) (n k : ℕ) → AllByRecursion InRange h → InRange x →
         has_passed (view c h) n k ≡ true → (has_passed (view c (h ++ x ∷ [])) n k ≡ true)
         × (rows_of (view c (h ++ x ∷ [])) n k ≡ rows_of (view c h) n k) }
+{}
+
+/// Alike queries, of two lists of items and under two configurations, have the same text, whoever else lives or held their
+/// slots.
+pub fn alike_queries_have_equal_texts()
+    ensures { (c d : Config) (h k : List Item) (n m : ℕ) →
+        AreAlike (view c h) n (view d k) m → text_of c h n ≡ text_of d k m }
 {}

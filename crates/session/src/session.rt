@@ -12,10 +12,10 @@ ghost use Rattle.session.specs.Book.{refusal_of_cause};
 ghost use Rattle.session.specs.Seats.{AreSeated};
 
 use crate::decision::Decision;
-use crate::planned::planned_for;
 use as_base::{
     Answer, Cause, Change, FOREVER, Given, Item, Msg, NoMemory, Plan, Record, StreamId, Text, Word,
 };
+use query_plan::plan_of;
 use slot_alloc::{Full, Slots};
 use std::alloc::Global;
 
@@ -155,7 +155,7 @@ impl Session {
     ghost use Rattle.session.specs.Acceptance.{has_ended};
     ghost use Rattle.session.specs.Book.{stream_refusal};
     ghost use Rattle.session.specs.Decision.{IsDecided, decision_on};
-    ghost use Rattle.session.specs.Planned.{plan_for, is_built};
+    ghost use Rattle.session.specs.Planned.{plan_for};
     ghost use Rattle.session.specs.Session.{clock_of, StandsFor};
 
     /// A session that has taken nothing, for the first `streams` of the four streams, from 2 to 4, and with so many
@@ -288,7 +288,7 @@ impl Session {
     fn open(&mut self, plan: Plan) -> Decision
         requires few { self.old.items < 2 ^ 62 }
         ensures stands { (c : Config) (h : List Item) (text : List ℕ) →
-            plan_for c text ≡ Ok plan → is_built plan.kind ≡ true → StandsFor c self.old h →
+            plan_for c text ≡ Ok plan → StandsFor c self.old h →
             StandsFor c self.new (h ++ Item.Create text ∷ []) × IsDecided c h (Item.Create text) result }
         ensures count { self.new.items ≡ self.old.items + 1 }
     {
@@ -324,7 +324,7 @@ impl Session {
         ensures count { OnOk result (self.new.items ≡ self.old.items + 1) }
         ensures kept { OnErr result (self.new ≡ self.old) }
     {
-        match planned_for(self.alloc, text, self.streams)? {
+        match plan_of(self.alloc, text, self.streams)? {
             Ok(plan) => Ok(self.open(plan)),
             Err(word) => {
                 self.items += 1;

@@ -1,10 +1,9 @@
 -- What each message makes due: a watermark the rows of the windows that it passes, any other message none.
-use Rattle.std.proofs.Common.{◌≡◌, inl, inr, ℕ, ◌^◌, ◌≤◌, ◌<◌, ◌&&◌, eqb, Bool, true, false, true≢false, not, cond, List, [], ◌∷◌, ◌++◌, map, refl, sym, ap, subst, ◌∙◌, append-nil, arith}
+use Rattle.std.proofs.Common.{◌≡◌, inl, inr, ℕ, ◌^◌, ◌≤◌, ◌<◌, ◌&&◌, eqb, Bool, true, false, true≢false, not, cond, List, [], ◌∷◌, ◌++◌, map, refl, sym, ap, ap₂, subst, ◌∙◌, append-nil, arith}
 use Rattle.std.specs.List.{filter, flat_map, list_any, AllByRecursion}
 use Rattle.std.proofs.lemmas.Bool.{cases_lt, and_parts, and_from, false_from_ne_true, or_left}
 use Rattle.std.proofs.lemmas.Grind.{flat_map-append}
 use Rattle.std.proofs.lemmas.List.Folds.{list_any-append}
-use Rattle.as_base.specs.declared.item.Given.{Given}
 use Rattle.as_base.specs.declared.item.Record.{Record}
 use Rattle.as_base.specs.declared.message.Change.TheVariants.{Opened, Closed}
 use Rattle.as_base.specs.declared.message.Msg.{Msg}
@@ -13,11 +12,12 @@ use Rattle.as_base.specs.declared.query.Kind.{Kind}
 use Rattle.as_base.specs.declared.query.Kind.TheVariants.{Select, Sum, Count, Join}
 use Rattle.as_base.specs.declared.query.Plan.{Plan}
 use Rattle.as_base.specs.declared.row.Row.{Row}
+use Rattle.as_base.specs.declared.stream.StreamId.{StreamId}
 use Rattle.as_base.specs.Windows.{in_window}
 use Rattle.views.specs.Query.{Query, opened, is_live, closed}
-use Rattle.views.specs.View.{View, is_mine}
+use Rattle.views.specs.View.{View, watermark_of, is_mine, query_watermark}
 use Rattle.views.specs.Passed.{windows_with, given_to, within, windows_of, is_passed, passed_windows}
-use Rattle.views.specs.Rows.{rows_as, rows, due_rows, due_to, has_passed, rows_of}
+use Rattle.views.specs.Rows.{rows_as, rows_with, rows, due_rows, due_to, has_passed, rows_of}
 use Rattle.views.specs.Message.{after, RecordFollows, MarksFollow, ChangeFollows, Follows}
 use Rattle.views.specs.IsView.{IsQuery, IsView}
 use Rattle.views.proofs.ListLaws.{All-by, All-every, All-passed, flat_map-same, filter-same, list_any-weaker, list_any-map}
@@ -25,16 +25,13 @@ use Rattle.views.proofs.RisingLaws.{filter-later}
 use Rattle.views.proofs.WindowLaws.{Rises-windows, filter-windows-push, within-push}
 use Rattle.views.proofs.NumberLaws.{of_number, of_number-both, of_number-same, of_number-where, of_number-opened, of_number-closed, each-numbered, ended, closed-number}
 use Rattle.views.proofs.GivenLaws.{given_to-record, given_to-ended, given_to-opened, lasts-live}
-use Rattle.views.proofs.PassedLaws.{passed-earlier, passed-advance, passed-record, passed-ended, passed-closed}
+use Rattle.views.proofs.PassedLaws.{passed-earlier, passed-advance, passed-record, left_least, right_least, passed-ended, passed-closed}
 
--- the rows that a plan makes of these records in window k
-abbrev pub rows_with : Plan → List Given → ℕ → List Row
-rows_with p gs k = rows_as p.kind p k (within p.win k gs)
-
-pub rows_with-none : (p : Plan) (k : ℕ) → rows_with p [] k ≡ []
+-- no records, no rows
+pub rows_with-none : (p : Plan) (k : ℕ) → rows_with p [] [] k ≡ []
 rows_with-none p k = go p.kind
   where
-    go : (kind : Kind) → rows_as kind p k [] ≡ []
+    go : (kind : Kind) → rows_as kind p k [] [] ≡ []
     go Select = refl
     go (Sum c) = refl
     go Count = refl
@@ -45,16 +42,19 @@ rows_with-none p k = go p.kind
 -- a passed window has the same rows as before
 pub rows-record : (v : View) (r : Record) (q : Query) (k : ℕ) → RecordFollows v r → is_passed v q k ≡ true → rows (after v (msg.Rec r)) q k ≡ rows v q k
 rows-record v r q k f passed =
-    ap (rows_as q.plan.kind q.plan k)
-    (ap (within q.plan.win k) (given_to-record v r q q.plan.left)
-    ∙ within-push q.plan.win k (given_to v q q.plan.left) r.given (is_mine q q.plan.left r)
-    (λ own. false_from_ne_true (in_window q.plan.win k r.given.time) (λ inside. true≢false (sym passed ∙ passed-record v r q k f own inside))))
+    ap₂ (rows_as q.plan.kind q.plan k) (side q.plan.left (left_least v q)) (side q.plan.right (right_least v q))
+  where
+    side : (s : StreamId) → query_watermark v q ≤ watermark_of v s → within q.plan.win k (given_to (after v (msg.Rec r)) q s) ≡ within q.plan.win k (given_to v q s)
+    side s least =
+        ap (within q.plan.win k) (given_to-record v r q s)
+        ∙ within-push q.plan.win k (given_to v q s) r.given (is_mine q s r)
+        (λ own. false_from_ne_true (in_window q.plan.win k r.given.time) (λ inside. true≢false (sym passed ∙ passed-record v r q s k least f own inside)))
 
 -- of each query, a record makes no row due
 pub due-record : (v : View) (r : Record) (q : Query) → IsQuery q → RecordFollows v r → due_rows (after v (msg.Rec r)) q ≡ due_rows v q
 due-record v r q made f =
     ap (λ gs. flat_map (rows (after v (msg.Rec r)) q) (filter (is_passed v q) (windows_with q.plan.win gs))) (given_to-record v r q q.plan.left)
-    ∙ ap (flat_map (rows (after v (msg.Rec r)) q)) (filter-windows-push (is_passed v q) q.plan.win (given_to v q q.plan.left) r.given (is_mine q q.plan.left r) (made.fits).0 (λ own k inside. passed-record v r q k f own inside))
+    ∙ ap (flat_map (rows (after v (msg.Rec r)) q)) (filter-windows-push (is_passed v q) q.plan.win (given_to v q q.plan.left) r.given (is_mine q q.plan.left r) (made.fits).0 (λ own k inside. passed-record v r q q.plan.left k (left_least v q) f own inside))
     ∙ flat_map-same (rows (after v (msg.Rec r)) q) (rows v q) (passed_windows v q)
     (All-by (λ k. is_passed v q k ≡ true) (λ k. rows (after v (msg.Rec r)) q k ≡ rows v q k) (λ k passed. rows-record v r q k f passed) (passed_windows v q) (All-passed (is_passed v q) (windows_of v q)))
 
@@ -85,7 +85,9 @@ pub rows-closed : (v : View) (n slot at : ℕ) (q : Query) (k : ℕ) → IsQuery
 rows-closed v n slot at q k made f timed = go (is_live n q) refl
   where
     go : (b : Bool) → is_live n q ≡ b → rows (after v (msg.Change (Closed n slot at))) (cond b (ended at q) q) k ≡ rows v q k
-    go true e = ap (λ gs. rows_with q.plan gs k) (given_to-ended v at q q.plan.left (lasts-live n q made e) timed f.records)
+    go true e =
+        let lasts = lasts-live n q made e in
+        ap₂ (λ lefts rights. rows_with q.plan lefts rights k) (given_to-ended v at q q.plan.left lasts timed f.records) (given_to-ended v at q q.plan.right lasts timed f.records)
     go false e = refl
 
 no_records : (at : ℕ) (rs : List Record) → at ≤ 0 → AllByRecursion (λ (r : Record). r.given.time < at) rs → rs ≡ []
@@ -107,7 +109,8 @@ due-closed v n slot at q made f timed = go (is_live n q) refl
     go : (b : Bool) → is_live n q ≡ b → due_rows (after v (msg.Change (Closed n slot at))) (cond b (ended at q) q) ≡ due_rows v q
     go true e =
         let lasts = lasts-live n q made e in
-        ap (λ gs. flat_map (rows_with q.plan gs) (filter (is_passed v (ended at q)) (windows_with q.plan.win gs))) (given_to-ended v at q q.plan.left lasts timed f.records)
+        ap₂ (λ lefts rights. flat_map (rows_with q.plan lefts rights) (filter (is_passed v (ended at q)) (windows_with q.plan.win lefts)))
+        (given_to-ended v at q q.plan.left lasts timed f.records) (given_to-ended v at q q.plan.right lasts timed f.records)
         ∙ ap (flat_map (rows v q)) (filter-same (is_passed v (ended at q)) (is_passed v q) (windows_of v q) (windows-ended v at q lasts f))
     go false e = refl
 
@@ -115,12 +118,14 @@ due-closed v n slot at q made f timed = go (is_live n q) refl
 
 -- a query that is opened after all records has no rows
 pub rows-opened : (v : View) (n slot at : ℕ) (plan : Plan) (k : ℕ) → ChangeFollows v at → rows (after v (msg.Change (Opened n slot at plan))) (opened n plan at) k ≡ []
-rows-opened v n slot at plan k f = ap (λ gs. rows_with plan gs k) (given_to-opened v n slot at plan plan.left f) ∙ rows_with-none plan k
+rows-opened v n slot at plan k f =
+    ap₂ (λ lefts rights. rows_with plan lefts rights k) (given_to-opened v n slot at plan plan.left f) (given_to-opened v n slot at plan plan.right f)
+    ∙ rows_with-none plan k
 
 -- and none that are due
 pub due-opened : (v : View) (n slot at : ℕ) (plan : Plan) → ChangeFollows v at → due_rows (after v (msg.Change (Opened n slot at plan))) (opened n plan at) ≡ []
 due-opened v n slot at plan f =
-    ap (λ gs. flat_map (rows_with plan gs) (filter (is_passed (after v (msg.Change (Opened n slot at plan))) (opened n plan at)) (windows_with plan.win gs))) (given_to-opened v n slot at plan plan.left f)
+    ap (λ lefts. flat_map (rows (after v (msg.Change (Opened n slot at plan))) (opened n plan at)) (filter (is_passed (after v (msg.Change (Opened n slot at plan))) (opened n plan at)) (windows_with plan.win lefts))) (given_to-opened v n slot at plan plan.left f)
 
 -- ---- the rows that are due to query n
 

@@ -1,7 +1,7 @@
 -- The records that belong to a query, and what each message changes of them.
-use Rattle.std.proofs.Common.{◌≡◌, ℕ, ◌^◌, ◌≤◌, ◌<◌, ◌&&◌, ◌||◌, nat_lt, nat_le, eqb, Bool, true, false, cond, List, [], ◌∷◌, ◌++◌, map, get_or, refl, sym, ap, subst, ◌∙◌}
+use Rattle.std.proofs.Common.{◌≡◌, ℕ, ◌^◌, ◌≤◌, ◌<◌, ◌&&◌, nat_lt, nat_le, eqb, Bool, true, false, cond, List, [], ◌∷◌, ◌++◌, map, get_or, refl, sym, ap, subst, ◌∙◌}
 use Rattle.std.specs.List.{filter, AllByRecursion}
-use Rattle.std.proofs.lemmas.Bool.{and_parts, and_left, and_right, lt-ltb, lt-leb, ltb-true, eqb-true, eq-eqb}
+use Rattle.std.proofs.lemmas.Bool.{and_parts, and_left, and_right, lt-ltb, lt-leb, ltb-true, eqb-true}
 use Rattle.std.proofs.lemmas.List.{map-append}
 use Rattle.std.proofs.lemmas.List.Elements.{filter-append}
 use Rattle.as_base.specs.declared.item.Given.{Given}
@@ -13,11 +13,11 @@ use Rattle.as_base.specs.declared.stream.StreamId.{StreamId}
 use Rattle.as_base.specs.Stream.{place_of}
 use Rattle.as_base.specs.Query.{holds_all}
 use Rattle.views.specs.Query.{Query, opened, is_live}
-use Rattle.views.specs.View.{View, watermark_of, is_of, given_on, reads, bounds_for, is_mine}
+use Rattle.views.specs.View.{View, watermark_of, is_of, reads, bounds_for, is_mine}
 use Rattle.views.specs.Passed.{given_to}
 use Rattle.views.specs.Message.{after, RecordFollows, ChangeFollows}
 use Rattle.views.specs.IsView.{IsQuery}
-use Rattle.views.proofs.ListLaws.{All-by, All-both, All-every, All-filter, All-map, filter-same, filter-map, filter-none, filter-within}
+use Rattle.views.proofs.ListLaws.{All-by, All-both, All-filter, All-map, filter-same, filter-none}
 use Rattle.views.proofs.NumberLaws.{ended}
 
 parts_of_five : (a b c d e : Bool) → (a && b && c && d && e) ≡ true → (b ≡ true) × (d ≡ true)
@@ -87,33 +87,6 @@ given_to-opened v n slot at plan s f =
     ap (map (λ (r : Record). r.given))
     (filter-none (is_mine (opened n plan at) s) v.records
     (All-by (λ (r : Record). r.given.time < at) (λ r. is_mine (opened n plan at) s r ≡ false) (λ r low. mine-early (opened n plan at) s r low) v.records f.records))
-
--- ---- the records of a query as those of its stream
-
--- the query picks the record: it reads its stream, lives at its time, and its bounds hold it
-abbrev pub picks : Query → Given → Bool
-picks q g = eqb (place_of g.stream) (place_of q.plan.left) && nat_le q.from g.time && nat_lt g.time q.to && holds_all q.plan.left_bounds g
-
--- what it picks is of its stream
-pub picks-stream : (q : Query) (g : Given) → picks q g ≡ true → eqb (place_of g.stream) (place_of q.plan.left) ≡ true
-picks-stream q g h =
-    let s = eqb (place_of g.stream) (place_of q.plan.left) in
-    let a = nat_le q.from g.time in
-    let b = nat_lt g.time q.to in
-    (and_parts s a (and_parts (s && a) b (and_parts (s && a && b) (holds_all q.plan.left_bounds g) h).0).0).0
-
-is_mine-picks : (q : Query) (r : Record) → is_mine q q.plan.left r ≡ picks q r.given
-is_mine-picks q r =
-    ap (λ b. (b || eqb (place_of q.plan.right) (place_of q.plan.left)) && eqb (place_of r.given.stream) (place_of q.plan.left) && nat_le q.from r.given.time && nat_lt r.given.time q.to
-    && holds_all (cond b q.plan.left_bounds q.plan.right_bounds) r.given) (eq-eqb (place_of q.plan.left) (place_of q.plan.left) refl)
-
--- what is a query's own on its left stream is what it picks of it
-pub given_to-picks : (v : View) (q : Query) → given_to v q q.plan.left ≡ filter (picks q) (given_on v q.plan.left)
-given_to-picks v q =
-    ap (map (λ (r : Record). r.given))
-    (filter-same (is_mine q q.plan.left) (λ r. picks q r.given) v.records (All-every (λ r. is_mine q q.plan.left r ≡ picks q r.given) (is_mine-picks q) v.records)
-    ∙ sym (filter-within (λ r. picks q r.given) (is_of q.plan.left) v.records (λ r h. picks-stream q r.given h)))
-    ∙ sym (filter-map (picks q) (λ (r : Record). r.given) (filter (is_of q.plan.left) v.records))
 
 -- ---- facts of each of these records
 

@@ -1,5 +1,7 @@
 pub mod ListLaws
 pub mod RisingLaws
+pub mod SortLaws
+pub mod PairLaws
 pub mod GroupLaws
 pub mod WindowLaws
 pub mod NumberLaws
@@ -8,3 +10,4 @@ pub mod ViewLaws
 pub mod GivenLaws
 pub mod PassedLaws
 pub mod DueLaws
+pub mod AlikeLaws

@@ -6,6 +6,7 @@ use Rattle.as_base.specs.declared.item.Record.{Record}
 use Rattle.as_base.specs.declared.message.Change.TheVariants.{Closed}
 use Rattle.as_base.specs.declared.message.Msg.TheVariants as msg
 use Rattle.as_base.specs.Stream.{place_of}
+use Rattle.as_base.specs.declared.stream.StreamId.{StreamId}
 use Rattle.as_base.specs.Windows.{start_of, end_of, in_window}
 use Rattle.views.specs.Query.{Query, is_live, closed}
 use Rattle.views.specs.View.{View, watermark_of, is_mine, query_watermark}
@@ -45,16 +46,30 @@ passed-advance v marks q k f h =
     (below_both (min (end_of q.plan.win k) q.to) (query_watermark v q) (query_watermark (after v (msg.Advance marks)) q)
     (leb-true (min (end_of q.plan.win k) q.to) (query_watermark v q) h) (watermark-advance v marks q f))
 
-above_mark : (a b t e to : ℕ) → a ≤ t → t < e → t < to → min a b < min e to
-above_mark a b t e to h k l = omega (arith, h, k, l)
+above_mark : (m t e to : ℕ) → m ≤ t → t < e → t < to → m < min e to
+above_mark m t e to h k l = omega (arith, h, k, l)
+
+-- a query's watermark is not above those of its two streams
+pub left_least : (v : View) (q : Query) → query_watermark v q ≤ watermark_of v q.plan.left
+left_least v q = not_above (watermark_of v q.plan.left) (watermark_of v q.plan.right)
+  where
+    not_above : (a b : ℕ) → min a b ≤ a
+    not_above a b = omega arith
+
+pub right_least : (v : View) (q : Query) → query_watermark v q ≤ watermark_of v q.plan.right
+right_least v q = not_above (watermark_of v q.plan.left) (watermark_of v q.plan.right)
+  where
+    not_above : (a b : ℕ) → min a b ≤ b
+    not_above a b = omega arith
 
 -- no window that holds a new record of a query's own is passed
-pub passed-record : (v : View) (r : Record) (q : Query) (k : ℕ) → RecordFollows v r → is_mine q q.plan.left r ≡ true → in_window q.plan.win k r.given.time ≡ true → is_passed v q k ≡ false
-passed-record v r q k f own inside =
-    let parts = mine-parts q q.plan.left r own in
+pub passed-record : (v : View) (r : Record) (q : Query) (s : StreamId) (k : ℕ) → query_watermark v q ≤ watermark_of v s → RecordFollows v r → is_mine q s r ≡ true → in_window q.plan.win k r.given.time ≡ true
+    → is_passed v q k ≡ false
+passed-record v r q s k least f own inside =
+    let parts = mine-parts q s r own in
     lt-leb (min (end_of q.plan.win k) q.to) (query_watermark v q)
-    (above_mark (watermark_of v q.plan.left) (watermark_of v q.plan.right) r.given.time (end_of q.plan.win k) q.to
-    (at_mark v r q.plan.left f parts.0)
+    (above_mark (query_watermark v q) r.given.time (end_of q.plan.win k) q.to
+    (below_both (query_watermark v q) (watermark_of v s) r.given.time least (at_mark v r s f parts.0))
     (ltb-true r.given.time (end_of q.plan.win k) (and_parts (nat_le (start_of q.plan.win k) r.given.time) (nat_lt r.given.time (end_of q.plan.win k)) inside).1)
     parts.1)
 

@@ -53,7 +53,7 @@ closed-made : (n at : ℕ) (q : Query) → at ≤ 2 ^ 62 → IsQuery q → IsQue
 closed-made n at q most made = go (is_live n q)
   where
     go : (b : Bool) → IsQuery (cond b (ended at q) q)
-    go true = record { begins = made.begins; ends = most; lasts = λ h. cc; canonical = made.canonical; fits = made.fits; one = made.one }
+    go true = record { begins = made.begins; ends = most; lasts = λ h. cc; canonical = made.canonical; fits = made.fits }
     go false = made
 
 pub IsView-first : IsView first_view
@@ -93,7 +93,7 @@ IsView-after v (msg.Change (Opened n slot at plan)) is f = record {
   four = is.four;
   most = is.most;
   numbered = IsNumbered-push 1 v.queries (opened n plan at) is.numbered (let e = f.1 in omega (arith, e));
-  made = All-push IsQuery v.queries (opened n plan at) is.made (record { begins = f.0.most; ends = omega arith; lasts = λ h. refl; canonical = (f.2).canonical; fits = (f.2).fits; one = (f.2).one });
+  made = All-push IsQuery v.queries (opened n plan at) is.made (record { begins = f.0.most; ends = omega arith; lasts = λ h. refl; canonical = (f.2).canonical; fits = (f.2).fits });
   timed = is.timed;
   ordered = is.ordered;
 }

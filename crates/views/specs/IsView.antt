@@ -8,15 +8,13 @@ use Rattle.views.specs.Query.{Query}
 use Rattle.views.specs.View.{View, watermark_of, is_of}
 use Rattle.views.specs.Order.{InOrder}
 
--- The query's life lies within time, and lasts on while it lives. Its plan is in its one form and in range, and reads one
--- stream.
+-- The query's life lies within time, and lasts on while it lives. Its plan is in its one form and in range.
 pub record IsQuery (q : Query) : Type 0 where
   pub begins : q.from ≤ 2 ^ 62
   pub ends : q.to ≤ 2 ^ 62
   pub lasts : IsTrue q.live → q.to ≡ 2 ^ 62
   pub canonical : IsCanonical q.plan
   pub fits : FitsPlan q.plan
-  pub one : q.plan.right ≡ q.plan.left
 
 -- The watermarks are four, none above 2^62; the queries are numbered from 1 on; the records have times, and those of one
 -- stream stand in order.

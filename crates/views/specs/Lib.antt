@@ -3,7 +3,9 @@ pub mod View
 pub mod Order
 pub mod Passed
 pub mod Groups
+pub mod Pairs
 pub mod Rows
+pub mod Alike
 pub mod Message
 pub mod IsView
 pub mod Worked

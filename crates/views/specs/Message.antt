@@ -43,11 +43,10 @@ pub record ChangeFollows (v : View) (at : ℕ) : Type 0 where
   pub marks : (s : StreamId) → 0 < watermark_of v s → watermark_of v s < 2 ^ 62 → watermark_of v s < at
   pub records : AllByRecursion (λ (r : Record). r.given.time < at) v.records
 
--- A plan that may be opened: it is in its one form and in range, and reads one stream.
+-- A plan that may be opened: it is in its one form and in range.
 pub record IsOpenable (p : Plan) : Type 0 where
   pub canonical : IsCanonical p
   pub fits : FitsPlan p
-  pub one : p.right ≡ p.left
 
 -- The message may follow the view. A query that is opened has the next number; one that is closed lives.
 abbrev pub Follows : View → Msg → Type 0

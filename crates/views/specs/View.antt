@@ -1,8 +1,7 @@
 -- Views, and what a query has of one: the streams that it reads, its records, and its watermark.
-use Rattle.std.specs.Prelude.{ℕ, ◌==◌, ◌&&◌, ◌||◌, nat_lt, nat_le, min, if◌then◌else◌, Bool, List, map, get_or}
+use Rattle.std.specs.Prelude.{ℕ, ◌==◌, ◌&&◌, ◌||◌, nat_lt, nat_le, min, if◌then◌else◌, Bool, List, get_or}
 use Rattle.std.specs.List.{filter}
 use Rattle.as_base.specs.declared.stream.StreamId.{StreamId}
-use Rattle.as_base.specs.declared.item.Given.{Given}
 use Rattle.as_base.specs.declared.item.Record.{Record}
 use Rattle.as_base.specs.declared.query.Bounds.{Bounds}
 use Rattle.as_base.specs.declared.query.Plan.{Plan}
@@ -23,10 +22,6 @@ watermark_of v s = get_or v.marks (place_of s) 0
 -- the record is of the stream
 abbrev pub is_of : StreamId → Record → Bool
 is_of s r = place_of r.given.stream == place_of s
-
--- the accepted records of the stream, as they were given
-abbrev pub given_on : View → StreamId → List Given
-given_on v s = map (λ (r : Record). r.given) (filter (is_of s) v.records)
 
 -- the plan reads the stream, on its left or its right
 abbrev pub reads : Plan → StreamId → Bool

@@ -1,21 +1,23 @@
 -- Worked windows and rows, evaluated on the definitions alone.
-use Rattle.std.specs.Prelude.{ℕ, ℤ, true, pos, negsuc, ◌≡◌, ◌-◌, ◌^◌, refl, Some, None, List, [], ◌∷◌}
+use Rattle.std.specs.Prelude.{ℕ, ℤ, true, false, pos, negsuc, ◌≡◌, ◌-◌, ◌^◌, refl, Some, None, List, [], ◌∷◌}
 use Rattle.as_base.specs.declared.item.Given.{Given}
 use Rattle.as_base.specs.declared.item.Record.{Record}
 use Rattle.as_base.specs.declared.query.Col.TheVariants.{V1, V2}
 use Rattle.as_base.specs.declared.query.Group.{Group}
 use Rattle.as_base.specs.declared.query.Group.TheVariants as group
 use Rattle.as_base.specs.declared.query.Kind.{Kind}
-use Rattle.as_base.specs.declared.query.Kind.TheVariants.{Select, Sum, Count}
-use Rattle.as_base.specs.declared.row.Row.TheVariants.{Sel, Agg}
-use Rattle.as_base.specs.declared.stream.StreamId.TheVariants.{A}
+use Rattle.as_base.specs.declared.query.Kind.TheVariants.{Select, Sum, Count, Join}
+use Rattle.as_base.specs.declared.row.Row.{Row}
+use Rattle.as_base.specs.declared.row.Row.TheVariants.{Sel, Agg, Pair}
+use Rattle.as_base.specs.declared.stream.StreamId.TheVariants.{A, B}
 use Rattle.as_base.specs.declared.windows.WinSpec.{WinSpec}
 use Rattle.as_base.specs.Query.{unlimited}
 use Rattle.as_base.specs.Windows.{one_tick}
 use Rattle.views.specs.Query.{Query}
 use Rattle.views.specs.View.{View}
 use Rattle.views.specs.Passed.{windows_of, passed_windows}
-use Rattle.views.specs.Rows.{due_rows}
+use Rattle.views.specs.Rows.{due_rows, due_to}
+use Rattle.views.specs.Alike.{AreAlike}
 
 -- a query of stream a with these windows that lives from 0 up to a time
 abbrev query_until : ℕ → Kind → Group → WinSpec → Query
@@ -91,3 +93,59 @@ counts_of_ten = query_of Count group.All (record { size = 10; slide = 10 })
 
 pub last_window_of_all : due_rows (view_of counts_of_ten late_records (2 ^ 62)) counts_of_ten ≡ Agg 4611686018427387900 4611686018427387910 None (pos 1) ∷ []
 last_window_of_all = refl
+
+-- a join of streams a and b over windows of 10 ticks: two equal left records and two different right ones, one right record
+-- of another key, and one in a later window
+abbrev joined : Query
+joined = record {
+  n = 1;
+  plan = record { kind = Join; group = group.All; left = A; right = B; left_bounds = unlimited; right_bounds = unlimited; win = record { size = 10; slide = 10 } };
+  from = 0;
+  to = 2 ^ 62;
+  live = true;
+}
+
+abbrev given_on_b : ℕ → ℤ → ℤ → Given
+given_on_b time key v1 = record { stream = B; time = time; key = key; v = v1 ∷ pos 0 ∷ pos 0 ∷ pos 0 ∷ [] }
+
+abbrev left_given : Given
+left_given = given 1 (pos 7) (pos 3) (pos 0)
+
+abbrev joined_records : List Record
+joined_records = (record { seq = 2; given = left_given }) ∷ (record { seq = 3; given = left_given })
+    ∷ (record { seq = 4; given = given_on_b 8 (pos 7) (pos 9) }) ∷ (record { seq = 5; given = given_on_b 8 (pos 6) (pos 0) })
+    ∷ (record { seq = 6; given = given_on_b 8 (pos 7) (pos 5) }) ∷ (record { seq = 7; given = given_on_b 12 (pos 7) (pos 5) }) ∷ []
+
+abbrev joined_at : ℕ → ℕ → View
+joined_at a b = record { queries = joined ∷ []; records = joined_records; marks = a ∷ b ∷ 0 ∷ 0 ∷ [] }
+
+abbrev row_with : ℤ → Row
+row_with v1 = Pair 0 10 left_given (given_on_b 8 (pos 7) v1)
+
+pub pairs_by_numbers : due_rows (joined_at 10 10) joined ≡ row_with (pos 5) ∷ row_with (pos 5) ∷ row_with (pos 9) ∷ row_with (pos 9) ∷ []
+pairs_by_numbers = refl
+
+-- the lower watermark decides
+pub one_stream_behind : due_rows (joined_at 20 9) joined ≡ []
+one_stream_behind = refl
+
+-- in the next window no left record lies
+pub one_side_alone : due_rows (joined_at 20 20) joined ≡ due_rows (joined_at 10 10) joined
+one_side_alone = refl
+
+-- Two queries with one plan and one life: the second is query 2 of a view that has another query before it, which was
+-- closed, records of another stream among those of the first, and other lines. They are alike, and have the same rows.
+abbrev among_others : View
+among_others = record {
+  queries = (record { n = 1; plan = counts_of_ten.plan; from = 0; to = 3; live = false })
+      ∷ (record { n = 2; plan = sums_by_key.plan; from = 0; to = 2 ^ 62; live = true }) ∷ [];
+  records = (record { seq = 4; given = given_on_b 6 (pos 1) (pos 8) }) ∷ (record { seq = 5; given = given 7 (pos 1) (pos 3) (pos 0) })
+      ∷ (record { seq = 9; given = given_on_b 9 (pos 1) (pos 8) }) ∷ (record { seq = 11; given = given 12 (pos 1) (pos 4) (pos 0) }) ∷ [];
+  marks = 20 ∷ 9 ∷ 0 ∷ 0 ∷ [];
+}
+
+pub alike_among_others : AreAlike (view_of sums_by_key two_records 20) 1 among_others 2
+alike_among_others = refl
+
+pub rows_among_others : due_to among_others 2 ≡ due_to (view_of sums_by_key two_records 20) 1
+rows_among_others = refl

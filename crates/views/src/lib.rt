@@ -2,12 +2,13 @@
 //! definitions stand in `specs/`; the functions here are their laws.
 #![tactic(auto)]
 
-ghost use Rattle.std.specs.Prelude.{ℕ, ℤ, List, true, ◌≡◌, ◌==◌, ◌<ℤ◌};
-ghost use Rattle.std.specs.List.{AllPairs, list_any};
-ghost use Rattle.std.specs.List.Sorted.{IsStrictlyIncreasing};
-ghost use Rattle.std.specs.Ordering.{int_eq};
+ghost use Rattle.std.specs.Prelude.{ℕ, ℤ, Bool, List, true, ◌≡◌, ◌==◌, ◌&&◌, ◌<ℤ◌};
+ghost use Rattle.std.specs.List.{AllPairs, list_any, count_by, sum_by};
+ghost use Rattle.std.specs.List.Sorted.{IsSortedBy, IsStrictlyIncreasing};
+ghost use Rattle.std.specs.Ordering.{int_eq, is_lt};
 ghost use Rattle.as_words.specs.Prefix.{IsPrefix};
 ghost use Rattle.as_base.specs.Windows.{fits, in_window};
+ghost use Rattle.as_base.specs.declared.fragment.Couple.{Couple};
 ghost use Rattle.as_base.specs.declared.item.Given.{Given};
 ghost use Rattle.as_base.specs.declared.item.Record.{Record};
 ghost use Rattle.as_base.specs.declared.message.Change.{Change};
@@ -17,6 +18,7 @@ ghost use Rattle.as_base.specs.declared.windows.WinSpec.{WinSpec};
 ghost use Rattle.views.specs.View.{View};
 ghost use Rattle.views.specs.Passed.{windows_with};
 ghost use Rattle.views.specs.Groups.{groups, group_of};
+ghost use Rattle.views.specs.Pairs.{couple, compare, pairs};
 ghost use Rattle.views.specs.Rows.{due_to, has_passed, rows_of};
 ghost use Rattle.views.specs.Message.{after, Follows};
 ghost use Rattle.views.specs.IsView.{IsView, first_view};
@@ -34,6 +36,14 @@ pub fn groups_are_those_of_records()
     ensures rise { (by : Group) (gs : List Given) → AllPairs ◌<ℤ◌ (groups by gs) }
     ensures hold { (by : Group) (gs : List Given) (z : ℤ) →
         list_any (λ y. int_eq y z) (groups by gs) ≡ list_any (λ (g : Given). int_eq (group_of by g) z) gs }
+{}
+
+/// The pairs of records stand by the numbers of their rows, and are just those of a left and a right record with equal
+/// keys, each as often as these records come: for each test, as many pairs pass it as there are such pairs of records.
+pub fn pairs_are_those_of_records()
+    ensures rise { (lefts rights : List Given) → IsSortedBy (λ c d. is_lt (compare c d)) (pairs lefts rights) }
+    ensures hold { (lefts rights : List Given) (p : Couple → Bool) → count_by p (pairs lefts rights)
+        ≡ sum_by (λ (l : Given). count_by (λ (r : Given). int_eq l.key r.key && p (couple l r)) rights) lefts }
 {}
 
 /// What holds of every view holds of the first, and after each message that may follow.

@@ -81,6 +81,58 @@ const LAST: &[u8] =
 const WIDE: &[u8] = b"create sum v1 by v2 from a tumble 10\nrec a 1 3 9223372036854775807 5 0 0\n\
     rec a 2 4 9223372036854775807 5 0 0\nmark a 10\n";
 
+// One slot and one window have two joins, one after the other.
+const TWO_JOINS: &[u8] =
+    b"create join a b tumble 100\nrec a 10 7 0 0 0 0\ndelete 1\ncreate join a b tumble 100\n\
+    rec a 20 7 0 0 0 0\nrec b 5 7 0 0 0 0\nrec b 30 7 0 0 0 0\nmark a 100\nmark b 100\n";
+
+// Two equal records on each side.
+const EQUAL: &[u8] =
+    b"create join a b tumble 10\nrec a 1 7 0 0 0 0\nrec a 1 7 0 0 0 0\nrec b 2 7 0 0 0 0\n\
+    rec b 2 7 0 0 0 0\n";
+
+// Two equal records on the left, and two on the right that do not come in the order of their rows.
+const CROSSED: &[u8] =
+    b"create join a b tumble 10\nrec a 1 7 3 0 0 0\nrec a 1 7 3 0 0 0\nrec b 8 7 9 0 0 0\n\
+    rec b 8 7 5 0 0 0\n";
+
+// An hour of clicks on stream a and of purchases on stream b.
+const CLICKS: &[u8] =
+    b"create count by all from a tumble 600000\ncreate count by v1 from a tumble 1800000\n\
+    create sum v1 by key from b tumble 1800000\ncreate select from b where v1 >= 5000\n\
+    create join a b tumble 600000 left v1 = 3\n\
+    create sum v1 by all from b slide 1200000 600000\nrec a 60000 101 3 20 0 0\n\
+    rec a 120000 102 1 15 0 0\nrec b 180000 101 2500 7 0 0\nmark a 600000\nmark b 600000\n\
+    rec a 700000 102 3 9 0 0\nrec b 900000 102 7000 8 0 0\ndelete 1\n\
+    create count by key from a tumble 900000\ncreate select from a where key = 101\n\
+    rec a 1000000 101 2 30 0 0\nmark a 1200000\nmark b 1200000\ndelete 4\n\
+    create select from b where v1 < 5000\ndelete 5\ncreate join a b tumble 1200000\n\
+    create sum v1 by v2 from b tumble 3600000\ncreate count by all from b tumble 600000\n\
+    rec a 1300000 101 3 12 0 0\nrec b 1500000 101 4000 7 0 0\nrec b 1800000 102 6000 8 0 0\n\
+    rec a 1900000 102 3 5 0 0\nmark a 3600000\nmark b 3600000\n";
+
+// What is said in that hour.
+const CLICK_ANSWERS: &[u8] =
+    b"1 created 1 at 0\n2 created 2 at 0\n3 created 3 at 0\n4 created 4 at 0\n\
+    5 created 5 at 0\n6 created 6 at 0\n14 deleted 1 at 900001\n15 created 7 at 900001\n\
+    16 created 8 at 900001\n20 deleted 4 at 1200001\n21 created 9 at 1200001\n\
+    22 deleted 5 at 1200001\n23 created 10 at 1200001\n24 created 11 at 1200001\n\
+    25 created 12 at 1200001\ndone 31\n";
+
+// What the outputs hold after that hour, each after a line with its number.
+const CLICK_OUTPUTS: &[u8] =
+    b"output 1\n0 600000 2\n600000 1200000 1\noutput 2\n0 1800000 1 1\n0 1800000 2 1\n\
+    0 1800000 3 3\n1800000 3600000 3 1\noutput 3\n0 1800000 101 6500\n0 1800000 102 7000\n\
+    1800000 3600000 102 6000\noutput 4\n900000 102 7000 8 0 0\noutput 5\n\
+    0 600000 101 60000 3 20 0 0 180000 2500 7 0 0\n\
+    600000 1200000 102 700000 3 9 0 0 900000 7000 8 0 0\noutput 6\n0 1200000 9500\n\
+    600000 1800000 11000\n1200000 2400000 10000\n1800000 3000000 6000\noutput 7\n\
+    900000 1800000 101 2\n1800000 2700000 102 1\noutput 8\n1000000 101 2 30 0 0\n\
+    1300000 101 3 12 0 0\noutput 9\n1500000 101 4000 7 0 0\noutput 10\n\
+    1200000 2400000 101 1300000 3 12 0 0 1500000 4000 7 0 0\n\
+    1200000 2400000 102 1900000 3 5 0 0 1800000 6000 8 0 0\noutput 11\n0 3600000 7 4000\n\
+    0 3600000 8 6000\noutput 12\n1200000 1800000 1\n1800000 2400000 1\n";
+
 // A desk over the input, whose pulls go by the cuts; if a call is named, it fails after so many bytes.
 fn desk(
     alloc: Global,
@@ -176,7 +228,6 @@ fn inputs_are_answered_by_the_rule(rt: HostRuntime) -> Result<(), Fail> {
     let order =
         b"1 syntax 2\n2 twin\n3 window\n4 unknown\n5 syntax 1\n6 syntax 7\n7 stranger\n8 stranger\n\
         10 ended\n12 back\ndone 12\n";
-    let later = b"1 later\n2 created 1 at 0\ndone 2\n";
     let deleted = b"1 created 1 at 0\n5 deleted 1 at 10\ndone 8\n";
     answers(&rt, alloc, "run", &long, malformed, b"not begun")?;
     answers(&rt, alloc, "run", THREE, three, rows_of_three)?;
@@ -194,22 +245,14 @@ fn inputs_are_answered_by_the_rule(rt: HostRuntime) -> Result<(), Fail> {
         &rt,
         alloc,
         "run",
-        b"create join a b tumble 5\ncreate select from a\n",
-        later,
-        b"",
-    )?;
-    answers(
-        &rt,
-        alloc,
-        "run",
         DELETED,
         deleted,
         b"5 1 9 0 0 0\n7 1 5 0 0 0\n",
     )
 }
 
-// One count with its one answer, and what this leaves in output 1.
-fn counts<R: Threads + Sync + Abort>(
+// One query over windows, with its creation and what else is answered, and what this leaves in output 1.
+fn leaves<R: Threads + Sync + Abort>(
     rt: &R,
     alloc: Global,
     input: &[u8],
@@ -224,38 +267,38 @@ fn counts<R: Threads + Sync + Abort>(
 #[test]
 fn windows_have_their_rows(rt: HostRuntime) -> Result<(), Fail> {
     let alloc = rt.alloc();
-    counts(
+    leaves(
         &rt,
         alloc,
         HOLDERS,
         b"3 deleted 1 at 11\n4 created 2 at 11\ndone 6\n",
         b"0 100 1\n",
     )?;
-    counts(
+    leaves(
         &rt,
         alloc,
         SLIDING,
         b"done 4\n",
         b"0 10 1 3\n5 15 1 7\n10 20 1 4\n",
     )?;
-    counts(&rt, alloc, LATE, b"3 late\ndone 4\n", b"0 100 2\n")?;
-    counts(
+    leaves(&rt, alloc, LATE, b"3 late\ndone 4\n", b"0 100 2\n")?;
+    leaves(
         &rt,
         alloc,
         CUT,
         b"4 deleted 1 at 101\ndone 6\n",
         b"0 1000 1\n",
     )?;
-    counts(&rt, alloc, EDGE, b"done 5\n", b"0 10 1\n10 20 1\n")?;
-    counts(&rt, alloc, AT_ONCE, b"done 3\n", b"0 1 1\n")?;
-    counts(
+    leaves(&rt, alloc, EDGE, b"done 5\n", b"0 10 1\n10 20 1\n")?;
+    leaves(&rt, alloc, AT_ONCE, b"done 3\n", b"0 1 1\n")?;
+    leaves(
         &rt,
         alloc,
         LAST,
         b"3 deleted 1 at 4611686018427387904\ndone 3\n",
         b"4611686018427387900 4611686018427387910 1\n",
     )?;
-    counts(
+    leaves(
         &rt,
         alloc,
         WIDE,
@@ -291,6 +334,75 @@ fn push_line(out: &mut Vec<u8>, word: &[u8], n: u64) -> Result<(), Fail> {
     out.extend_from_slice(word)?;
     append_decimal(n, out)?;
     Ok(out.push(b'\n')?)
+}
+
+// What outputs 1 to 12 hold, if they were begun, each after a line with its number.
+fn all_held(alloc: Global, log: &[Entry]) -> Result<Vec<u8>, Fail> {
+    let mut all = Vec::new(alloc);
+    for n in 1..13 {
+        let rows = held(alloc, log, n)?;
+        if rows.as_slice() != b"not begun".as_slice() {
+            push_line(&mut all, b"output ", n)?;
+            all.extend_from_slice(&rows)?;
+        }
+    }
+    Ok(all)
+}
+
+// These words over the desk say this, and leave this in its outputs.
+fn fills<R: Threads + Sync + Abort>(
+    rt: &R,
+    alloc: Global,
+    words: &str,
+    desk: &mut MemDesk,
+    wanted: &[u8],
+    outputs: &[u8],
+) -> Result<(), Fail> {
+    called(rt, alloc, desk, words)?;
+    assert!(rt; said(alloc, desk.log())?.as_slice() == wanted);
+    assert!(rt; all_held(alloc, desk.log())?.as_slice() == outputs);
+    Ok(())
+}
+
+#[test]
+fn an_hour_fills_twelve_outputs(rt: HostRuntime) -> Result<(), Fail> {
+    let alloc = rt.alloc();
+    let mut desk = desk(alloc, CLICKS, &[], None)?;
+    fills(&rt, alloc, "run", &mut desk, CLICK_ANSWERS, CLICK_OUTPUTS)
+}
+
+// A run over the two joins, whose first pull ends with the first watermark and whose next call may be made to fail: what it
+// says after its answers, and what its outputs hold.
+fn joins_fill<R: Threads + Sync + Abort>(
+    rt: &R,
+    alloc: Global,
+    failing: Option<(u64, usize)>,
+    last: &[u8],
+    outputs: &[u8],
+) -> Result<(), Fail> {
+    let mut wanted = b"1 created 1 at 0\n3 deleted 1 at 11\n4 created 2 at 11\n".to_vec(alloc)?;
+    wanted.extend_from_slice(last)?;
+    let mut desk = desk(alloc, TWO_JOINS, &[149], failing)?;
+    fills(rt, alloc, "run --slots 1", &mut desk, &wanted, outputs)
+}
+
+#[test]
+fn the_joins_of_a_slot_wait_for_both_streams(rt: HostRuntime) -> Result<(), Fail> {
+    let alloc = rt.alloc();
+    let both = b"output 1\n0 100 7 10 0 0 0 0 5 0 0 0 0\noutput 2\n0 100 7 20 0 0 0 0 30 0 0 0 0\n";
+    joins_fill(&rt, alloc, Some((7, 0)), b"", b"output 1\noutput 2\n")?;
+    joins_fill(&rt, alloc, None, b"done 9\n", both)
+}
+
+#[test]
+fn pairs_have_their_rows(rt: HostRuntime) -> Result<(), Fail> {
+    let alloc = rt.alloc();
+    let equal = b"0 10 7 1 0 0 0 0 2 0 0 0 0\n0 10 7 1 0 0 0 0 2 0 0 0 0\n\
+        0 10 7 1 0 0 0 0 2 0 0 0 0\n0 10 7 1 0 0 0 0 2 0 0 0 0\n";
+    let crossed = b"0 10 7 1 3 0 0 0 8 5 0 0 0\n0 10 7 1 3 0 0 0 8 5 0 0 0\n\
+        0 10 7 1 3 0 0 0 8 9 0 0 0\n0 10 7 1 3 0 0 0 8 9 0 0 0\n";
+    leaves(&rt, alloc, EQUAL, b"done 5\n", equal)?;
+    leaves(&rt, alloc, CROSSED, b"done 5\n", crossed)
 }
 
 // All slots are taken, one creation is refused, query 40 is deleted, and a last query has its slot and its record.

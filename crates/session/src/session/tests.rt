@@ -62,15 +62,15 @@ fn each_item_is_decided(rt: HostRuntime) {
     );
     assert_eq!(rt; created(alloc, s, b"select from a").0, Some(Word::Full));
     assert_eq!(rt;
-        created(alloc, s, b"join a b tumble 5").0,
-        Some(Word::Later)
+        created(alloc, s, b"count by all from a tumble 5").0,
+        Some(Word::Full)
     );
     let deleted = Word::Deleted { n: 1, at: 6 };
     assert_eq!(rt; decided(s, &Item::Delete(1)), (Some(deleted), Some(0)));
     assert_eq!(rt; decided(s, &Item::Delete(1)).0, Some(Word::Unknown));
     let third = Word::Created { n: 3, at: 6 };
     assert_eq!(rt;
-        created(alloc, s, b"count by all from a tumble 5"),
+        created(alloc, s, b"join a b tumble 5"),
         (Some(third), Some(0))
     );
     assert_eq!(rt; recorded(s, StreamId::A, 4), Some(Word::Late));

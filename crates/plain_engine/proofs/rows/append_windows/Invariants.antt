@@ -6,7 +6,8 @@ use Rattle.plain_engine.proofs.rows.append_windows.Given as goal
 abbrev pub invariant-loop-next : goal.invariant-loop-next
 invariant-loop-next l =
     (start_of l.plan.win l.k < 2 ^ 63)
-    × (l.out.items ++ text_of_rows (rows_between l.plan l.k l.until l.records) ≡ l.initial.out.items ++ text_of_rows (rows_between l.plan l.first l.until l.records))
+    × (l.out.items ++ text_of_rows (rows_between l.plan l.k l.windows.end l.lefts l.rights)
+    ≡ l.initial.out.items ++ text_of_rows (rows_between l.plan l.windows.start l.windows.end l.lefts l.rights))
 
 abbrev pub decreases-loop-next : goal.decreases-loop-next
-decreases-loop-next l = l.until - l.k
+decreases-loop-next l = l.windows.end - l.k
