@@ -36,6 +36,19 @@ QUERIES = [
 ]
 
 
+def peak(process):
+    """The peak memory of a process until it ends, in KiB: that of its own image, read again and again."""
+    most = 0
+    while process.poll() is None:
+        try:
+            with open(f"/proc/{process.pid}/status") as status:
+                most = max([most] + [int(line.split()[1]) for line in status if line.startswith("VmHWM")])
+        except OSError:
+            pass
+        time.sleep(0.001)
+    return most
+
+
 def run(lines, folder):
     """The seconds and the peak memory, in KiB, of a run over these lines."""
     path = os.path.join(folder, "lines.txt")
@@ -43,12 +56,12 @@ def run(lines, folder):
         out.writelines(line + "\n" for line in lines)
     with open(path) as given, open(os.devnull, "w") as nowhere:
         start = time.perf_counter()
-        process = subprocess.Popen([PROGRAM, "run"], stdin=given, stdout=nowhere, cwd=folder)
-        _, status, usage = os.wait4(process.pid, 0)
+        process = subprocess.Popen(["sh", "-c", f"exec '{PROGRAM}' run"], stdin=given, stdout=nowhere, cwd=folder)
+        most = peak(process)
         took = time.perf_counter() - start
-    if status != 0:
-        sys.exit(f"the program ended with {status}")
-    return took, usage.ru_maxrss
+    if process.returncode != 0:
+        sys.exit(f"the program ended with {process.returncode}")
+    return took, most
 
 
 def main():

@@ -1,5 +1,5 @@
 -- What the calls that were made say of the counts of faults, and of the input.
-use Rattle.std.proofs.Common.{◌≡◌, ◌≢◌, ◌⊎◌, ◌≤◌, ◌<◌, ◌+◌, ℕ, Bool, true, false, cond, Result, Ok, Err, OnOk, Option, Some, None, List, [], ◌∷◌, ◌++◌, length, length-append, refl, sym, ap, subst, ◌∙◌, arith, inl, inr, ⊎_elim, is_none, true≢false}
+use Rattle.std.proofs.Common.{◌≡◌, ◌⊎◌, ◌≤◌, ◌<◌, ℕ, Bool, true, false, cond, Result, Ok, Err, OnOk, Option, Some, None, List, [], ◌∷◌, ◌++◌, length, length-append, refl, sym, ap, subst, ◌∙◌, arith, inl, inr, ⊎_elim, is_none, true≢false}
 use Rattle.as_base.specs.declared.config.Config.{Config}
 use Rattle.as_base.specs.Times.{times}
 use Rattle.as_base.proofs.TimesLaws.{times-cons}
@@ -13,7 +13,13 @@ use Rattle.as_outside.specs.Makes.{Seen, Faults, Rose, Counts, CountsOutputs, Ta
 use Rattle.as_outside.proofs.MakesLaws.{CountsOutputs-same, same_number}
 use Rattle.service.specs.declared.stop.Stop.{Stop}
 use Rattle.service.specs.declared.stop.Stop.TheVariants as stop
-use Rattle.astream_top.specs.Explanation.{IsExplained}
+use Rattle.soak.specs.Soaked.{items_of, soak_text}
+use Rattle.astream_top.specs.declared.command.Command.{Command}
+use Rattle.astream_top.specs.declared.command.Command.TheVariants.{Run, Soak, Generate, Explain}
+use Rattle.astream_top.specs.Command.{OnlySays}
+use Rattle.astream_top.specs.Explanation.{explanation, IsExplained}
+use Rattle.astream_top.specs.Generation.{IsGenerated, IsSoaked}
+use Rattle.astream_top.specs.Says.{SaysOnce}
 use Rattle.astream_top.specs.Ends.{pulls_failed, says_failed, StandsBy, IsEnded}
 use Rattle.astream_top.specs.Causes.{Tells, IsCaused, IsRead, EndsSurely}
 use Rattle.astream_top.specs.Run.{status_of, ended_by, IsEmptied}
@@ -40,7 +46,7 @@ caused c limit count s broken a b h = record {
 }
 
 -- calls that say, at most, end so by the says that failed
-said_so : (s : Status) (calls : List Entry) (a b : Seen) → Makes a b calls → pull_failures calls ≡ pulls_failed s → say_failures calls ≡ says_failed s → note_failures calls ≡ 0
+pub said_so : (s : Status) (calls : List Entry) (a b : Seen) → Makes a b calls → pull_failures calls ≡ pulls_failed s → say_failures calls ≡ says_failed s → note_failures calls ≡ 0
     → ((n : ℕ) → failures n calls ≡ 0) → Tells s [] → IsCaused s [] a.faults b.faults
 said_so s calls a b makes pulls says notes outputs told = record {
   pulls = subst (λ n. Counts n a.faults.pull b.faults.pull) pulls makes.pulls;
@@ -127,13 +133,50 @@ surely limit input status.OutputBroken broken left old new a b p q m n caused re
     go [] outputs some = some refl
     go (k ∷ rest) outputs some = never_rose (old.output k) (new.output k) (m k) (n k) (outputs.rose k (stands_first k rest))
 
-pub surely_explained : (text : List ℕ) (s : Status) (broken : List ℕ) (calls : List Entry) (old new : Faults) → old.say ≡ 0 → new.say ≡ 0 → IsCaused s broken old new → IsExplained text s calls
-    → (s ≡ status.Done) ⊎ (s ≡ status.NoMemory)
-surely_explained text status.Done broken calls old new a b caused h = inl refl
-surely_explained text status.NoMemory broken calls old new a b caused h = inr refl
-surely_explained text status.AnswerFault broken calls old new a b caused h = absurd (never_rose old.say new.say a b (caused.says.rose (omega arith)))
-surely_explained text status.Usage broken calls old new a b caused h = absurd h
-surely_explained text status.ReadFault broken calls old new a b caused h = absurd h
-surely_explained text status.OutputBroken broken calls old new a b caused h = absurd h
-surely_explained text status.TooLong broken calls old new a b caused h = absurd h
-surely_explained text status.JournalFault broken calls old new a b caused h = absurd h
+-- a command that only says something ends so
+abbrev EndsSaying : Status → Type 0
+EndsSaying status.Done = Unit {0}
+EndsSaying status.NoMemory = Unit {0}
+EndsSaying status.AnswerFault = Unit {0}
+EndsSaying _ = ⊥
+
+once_ends : (text : List ℕ) (s : Status) (calls : List Entry) → SaysOnce text s calls → EndsSaying s
+once_ends text status.Done calls h = tt
+once_ends text status.NoMemory calls h = tt
+once_ends text status.AnswerFault calls h = tt
+once_ends text status.Usage calls h = absurd h
+once_ends text status.ReadFault calls h = absurd h
+once_ends text status.OutputBroken calls h = absurd h
+once_ends text status.TooLong calls h = absurd h
+once_ends text status.JournalFault calls h = absurd h
+
+lines_end : (number lines streams : ℕ) (s : Status) (count : ℕ) (calls : List Entry) → IsGenerated number lines streams s count calls → EndsSaying s
+lines_end number lines streams status.Done count calls h = tt
+lines_end number lines streams status.NoMemory count calls h = tt
+lines_end number lines streams status.AnswerFault count calls h = tt
+lines_end number lines streams status.Usage count calls h = absurd h
+lines_end number lines streams status.ReadFault count calls h = absurd h
+lines_end number lines streams status.OutputBroken count calls h = absurd h
+lines_end number lines streams status.TooLong count calls h = absurd h
+lines_end number lines streams status.JournalFault count calls h = absurd h
+
+-- so ends each command that is no run, by what is said of each
+pub ends : (command : Command) (s : Status) (lines : ℕ) (a b : Seen) → OnlySays command
+    → ((c : Config) (number count : ℕ) → command ≡ Soak c number count → Does a b (IsSoaked c number count s lines))
+    → ((number count streams : ℕ) → command ≡ Generate number count streams → Does a b (IsGenerated number count streams s lines))
+    → ((text : List ℕ) → command ≡ Explain text → Does a b (IsExplained text s))
+    → EndsSaying s
+ends (Run c limit) s lines a b only soaked generated explained = absurd only
+ends (Soak c number count) s lines a b only soaked generated explained = let h = soaked c number count refl in once_ends (soak_text c (items_of number count c.streams)) s h.calls h.holds.1
+ends (Generate number count streams) s lines a b only soaked generated explained = let h = generated number count streams refl in lines_end number count streams s lines h.calls h.holds
+ends (Explain text) s lines a b only soaked generated explained = let h = explained text refl in once_ends (explanation text) s h.calls h.holds
+
+pub surely_said : (s : Status) (broken : List ℕ) (old new : Faults) → old.say ≡ 0 → new.say ≡ 0 → IsCaused s broken old new → EndsSaying s → (s ≡ status.Done) ⊎ (s ≡ status.NoMemory)
+surely_said status.Done broken old new a b caused h = inl refl
+surely_said status.NoMemory broken old new a b caused h = inr refl
+surely_said status.AnswerFault broken old new a b caused h = absurd (never_rose old.say new.say a b (caused.says.rose (omega arith)))
+surely_said status.Usage broken old new a b caused h = absurd h
+surely_said status.ReadFault broken old new a b caused h = absurd h
+surely_said status.OutputBroken broken old new a b caused h = absurd h
+surely_said status.TooLong broken old new a b caused h = absurd h
+surely_said status.JournalFault broken old new a b caused h = absurd h

@@ -1,15 +1,13 @@
 -- What the command `explain` says.
-use Rattle.std.specs.Prelude.{ℕ, ◌≡◌, Result, Ok, Err, List, [], ◌∷◌, ◌++◌, codes}
-use Rattle.as_words.specs.Prefix.{IsPrefix}
+use Rattle.std.specs.Prelude.{ℕ, Result, Ok, Err, List, ◌++◌, codes}
 use Rattle.as_base.specs.declared.query.Plan.{Plan}
 use Rattle.as_base.specs.declared.answer.Word.{Word}
 use Rattle.as_outside.specs.declared.entry.Entry.{Entry}
-use Rattle.as_outside.specs.declared.entry.Entry.TheVariants.{Said, SayFailed}
 use Rattle.as_outside.specs.declared.report.Status.{Status}
-use Rattle.as_outside.specs.declared.report.Status.TheVariants as status
 use Rattle.as_lineform.specs.Answer.{word_text}
 use Rattle.query_plan.specs.Planning.{plan_of}
 use Rattle.query_plan.specs.Text.{canonical_text}
+use Rattle.astream_top.specs.Says.{SaysOnce}
 
 -- the canonical text of the plan, or the word of the refusal
 abbrev pub planned_text : Result Plan Word → List ℕ
@@ -20,10 +18,6 @@ planned_text (Err w) = word_text w
 abbrev pub explanation : List ℕ → List ℕ
 explanation text = planned_text (plan_of 4 text) ++ codes "\n"
 
--- What the calls of an explanation are: one say of it, of which a prefix was said where it failed, and none at all where
--- there was no memory.
+-- What the calls of an explanation are: one say of it.
 abbrev pub IsExplained : List ℕ → Status → List Entry → Type 0
-IsExplained text status.Done calls = calls ≡ Said (explanation text) ∷ []
-IsExplained text status.AnswerFault calls = (front : List ℕ) × IsPrefix front (explanation text) × (calls ≡ SayFailed front ∷ [])
-IsExplained text status.NoMemory calls = calls ≡ []
-IsExplained text _ calls = ⊥
+IsExplained text s calls = SaysOnce (explanation text) s calls

@@ -1,5 +1,7 @@
 pub mod Command
+pub mod Says
 pub mod Explanation
+pub mod Generation
 pub mod Prompt
 pub mod Ends
 pub mod Run
@@ -18,5 +20,8 @@ pub use Rattle.session.specs.Answers
 pub use Rattle.session.specs.Book
 pub use Rattle.session.specs.View
 pub use Rattle.session.specs.Shut
+pub use Rattle.generate.specs.Generated
+pub use Rattle.soak.specs.Tally
+pub use Rattle.soak.specs.Soaked
 pub use Rattle.service.specs.AnswerText
 pub use Rattle.service.specs.Due

@@ -1,7 +1,9 @@
 ghost use Rattle.std.specs.Prelude.{◌≡◌, IfOk, OnErr, true, nat_le, length, map, string_bytes};
 ghost use Rattle.std.specs.List.{list_all};
 ghost use Rattle.as_words.specs.Words.{is_word, joined};
-ghost use Rattle.astream_top.specs.Command.{are_text, text_of_words, run_with, command_of, IsExplanation};
+ghost use Rattle.astream_top.specs.Command.{are_text, text_of_words, config_of, run_with, soak_with, generate_with, command_of, IsExplanation};
+ghost use Rattle.options.specs.Options.{number};
+ghost use Rattle.options.specs.declared.option.NumberOption.TheVariants.{Streams, Slots};
 
 use as_base::{Config, NoMemory, Text};
 use as_words::is_word;
@@ -18,6 +20,21 @@ const RUN_OPTIONS: [NumberOption; 3] = [
     NumberOption::MaxBytes,
 ];
 
+/// The options of `soak`.
+const SOAK_OPTIONS: [NumberOption; 4] = [
+    NumberOption::Number,
+    NumberOption::Lines,
+    NumberOption::Streams,
+    NumberOption::Slots,
+];
+
+/// The options of `generate`.
+const GENERATE_OPTIONS: [NumberOption; 3] = [
+    NumberOption::Number,
+    NumberOption::Lines,
+    NumberOption::Streams,
+];
+
 /// Over how many parts the work is to be spread, once it is.
 const PARTS: u16 = 4;
 
@@ -28,7 +45,22 @@ const LANE: u32 = 1024;
 #[derive(Debug, Drop)]
 pub enum Command {
     /// The service over the desk's input, of which it takes at most so many bytes.
-    Run { config: Config, limit: u64 },
+    Run {
+        config: Config,
+        limit: u64,
+    },
+    /// What so many lines that come of the number bring about.
+    Soak {
+        config: Config,
+        number: u64,
+        lines: u64,
+    },
+    /// So many lines that come of the number, over so many streams.
+    Generate {
+        number: u64,
+        lines: u64,
+        streams: u8,
+    },
     /// The canonical form of a query text.
     Explain(Text),
 }
@@ -74,27 +106,68 @@ fn text_of_words(alloc: Global, words: &[String]) -> Result<Option<Text>, NoMemo
     Ok(Some(Text::from_vec(joined.into_bytes())))
 }
 
-// What `run` is configured for by its options, if they are well given.
+// A configuration by the options of the words, which are pairs, if these options are well given.
+fn config_of(words: &[String]) -> Option<Config>
+    ensures { result ≡ config_of (number Streams (map string_bytes words.now)) (number Slots (map string_bytes words.now)) }
+{
+    let streams = number(words, NumberOption::Streams)?;
+    let slots = number(words, NumberOption::Slots)?;
+    Some(Config {
+        streams: streams as u8,
+        slots: slots as u16,
+        parts: PARTS,
+        lane: LANE,
+    })
+}
+
+// What `run` is asked for by its options, if they are well given.
 fn run_with(words: &[String]) -> Option<Command>
     ensures { result ≡ run_with (map string_bytes words.now) }
 {
     if !are_pairs(words, &RUN_OPTIONS) {
         return None;
     }
-    let streams = number(words, NumberOption::Streams)?;
-    let slots = number(words, NumberOption::Slots)?;
+    let config = config_of(words)?;
     let limit = number(words, NumberOption::MaxBytes)?;
-    let config = Config {
-        streams: streams as u8,
-        slots: slots as u16,
-        parts: PARTS,
-        lane: LANE,
-    };
     Some(Command::Run { config, limit })
 }
 
-/// What the words ask for: the service for `run` and its options; an explanation for `explain` and the words of a query
-/// text, which may be empty. `None` for any other words. The one fault is `NoMemory`, which comes only for an explanation.
+// What `soak` is asked for by its options, if they are well given.
+fn soak_with(words: &[String]) -> Option<Command>
+    ensures { result ≡ soak_with (map string_bytes words.now) }
+{
+    if !are_pairs(words, &SOAK_OPTIONS) {
+        return None;
+    }
+    let config = config_of(words)?;
+    let seed = number(words, NumberOption::Number)?;
+    let lines = number(words, NumberOption::Lines)?;
+    Some(Command::Soak {
+        config,
+        number: seed,
+        lines,
+    })
+}
+
+// What `generate` is asked for by its options, if they are well given.
+fn generate_with(words: &[String]) -> Option<Command>
+    ensures { result ≡ generate_with (map string_bytes words.now) }
+{
+    if !are_pairs(words, &GENERATE_OPTIONS) {
+        return None;
+    }
+    let seed = number(words, NumberOption::Number)?;
+    let lines = number(words, NumberOption::Lines)?;
+    let streams = number(words, NumberOption::Streams)?;
+    Some(Command::Generate {
+        number: seed,
+        lines,
+        streams: streams as u8,
+    })
+}
+
+/// What the words ask for: the service for `run` and its options, a soak for `soak` and its own, lines for `generate` and
+/// its own; an explanation for `explain` and the words of a query text, which may be empty. `None` for any other words. The one fault is `NoMemory`, which comes only for an explanation.
 pub fn command_of(alloc: Global, words: &[String]) -> Result<Option<Command>, NoMemory>
     ensures ok { IfOk result (λ command. command ≡ command_of (map string_bytes words.now)) }
     ensures err { OnErr result (IsExplanation (command_of (map string_bytes words.now))) }
@@ -104,6 +177,8 @@ pub fn command_of(alloc: Global, words: &[String]) -> Result<Option<Command>, No
     };
     match word.as_str() {
         "run" => Ok(run_with(rest)),
+        "soak" => Ok(soak_with(rest)),
+        "generate" => Ok(generate_with(rest)),
         "explain" => Ok(text_of_words(alloc, rest)?.map(Command::Explain)),
         _ => Ok(None),
     }

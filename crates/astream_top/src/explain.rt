@@ -3,6 +3,7 @@ ghost use Rattle.as_outside.specs.Makes.{Does};
 ghost use Rattle.astream_top.specs.Explanation.{explanation, IsExplained};
 ghost use Rattle.astream_top.specs.Causes.{IsCaused};
 
+use crate::says::say_once;
 use as_base::{NoMemory, Text};
 use as_lineform::append_word;
 use as_outside::{Desk, Status};
@@ -32,11 +33,8 @@ pub fn explain<D: Desk>(alloc: Global, desk: &mut D, text: &Text) -> Status
     ensures causes { IsCaused result [] (D.seen desk.old).faults (D.seen desk.new).faults }
     ensures said { Does (D.seen desk.old) (D.seen desk.new) (IsExplained text.now result) }
 {
-    let Ok(said) = explanation(alloc, text) else {
-        return Status::NoMemory;
-    };
-    match desk.say(&said) {
-        Ok(()) => Status::Done,
-        Err(_) => Status::AnswerFault,
+    match explanation(alloc, text) {
+        Ok(said) => say_once(desk, &said),
+        Err(NoMemory) => Status::NoMemory,
     }
 }

@@ -3,8 +3,11 @@
 
 mod command;
 mod explain;
+mod generating;
 mod laws;
 mod run;
+mod says;
+mod soaking;
 mod top;
 
 pub use laws::alike_queries_have_equal_outputs;

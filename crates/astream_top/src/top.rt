@@ -2,8 +2,9 @@ ghost use Rattle.std.specs.Prelude.{true, ◌≡◌, ◌<◌, ◌^◌, ◌⊎◌
 ghost use Rattle.as_outside.specs.Makes.{Does};
 ghost use Rattle.as_base.specs.Config.{fits};
 ghost use Rattle.as_base.specs.declared.config.Config.{Config};
-ghost use Rattle.astream_top.specs.Command.{command_of};
+ghost use Rattle.astream_top.specs.Command.{command_of, OnlySays};
 ghost use Rattle.astream_top.specs.Explanation.{IsExplained};
+ghost use Rattle.astream_top.specs.Generation.{IsGenerated, IsSoaked};
 ghost use Rattle.astream_top.specs.declared.command.Command.{Command};
 ghost use Rattle.astream_top.specs.Causes.{IsCaused, IsRead, EndsSurely};
 ghost use Rattle.astream_top.specs.Ends.{IsEnded};
@@ -12,7 +13,9 @@ ghost use Rattle.astream_top.specs.Run.{ended_by};
 
 use crate::command::{Command, command_of};
 use crate::explain::explain;
+use crate::generating::generate;
 use crate::run::{run_all, start};
+use crate::soaking::soak;
 use as_base::{Config, NoMemory, Numbers};
 use as_outside::{Desk, Gate, Report, Status, SureDesk};
 use plain_engine::PlainEngine;
@@ -46,11 +49,11 @@ fn run_within<D: Desk>(alloc: Global, desk: &mut D, config: Config, limit: u64) 
 {
     let engine = match PlainEngine::new(alloc, config) {
         Ok(engine) => engine,
-        Err(NoMemory) => return empty_report(alloc, Status::NoMemory),
+        Err(NoMemory) => return plain_report(alloc, Status::NoMemory, 0),
     };
     let mut run = match start(alloc, engine) {
         Ok(run) => run,
-        Err(NoMemory) => return empty_report(alloc, Status::NoMemory),
+        Err(NoMemory) => return plain_report(alloc, Status::NoMemory, 0),
     };
     let outcome = run_all(&mut run, desk, limit);
     report(outcome, run.processor)
@@ -68,19 +71,21 @@ fn report<E: Drop>(outcome: Result<(), Stop>, processor: Processor<E>) -> Report
     }
 }
 
-// A report of no line and no broken output.
-fn empty_report(alloc: Global, status: Status) -> Report
-    ensures { result ≡ record { status = status; lines = 0; broken = [] } }
+// A report without a broken output.
+fn plain_report(alloc: Global, status: Status, lines: u64) -> Report
+    ensures { result ≡ record { status = status; lines = lines; broken = [] } }
 {
     Report {
         status,
-        lines: 0,
+        lines,
         broken: Numbers::from_vec(Vec::new(alloc)),
     }
 }
 
 /// Does what the words ask for over a desk. `run` and its options, how many streams, how many slots, and how many bytes at
-/// most: lines are pulled, answered, and queries' rows are put on their outputs, until the input ends. `explain` and the
+/// most: lines are pulled, answered, and queries' rows are put on their outputs, until the input ends. `generate`, with a
+/// number and how many lines: these lines are said, the same each time. `soak`, with the same and the options of `run`:
+/// such lines are taken as `run` takes them, no row is kept, and what they come to is said in seven lines. `explain` and the
 /// words of a query text: what it is over the four streams is said, its canonical text or the word that refuses it. Any
 /// other words are `Usage`, and touch nothing. The gate is not called yet.
 ///
@@ -89,7 +94,8 @@ fn empty_report(alloc: Global, status: Status) -> Report
 /// run goes on; at its end `OutputBroken` stands for `Done`. `ReadFault` and `AnswerFault` come exactly where the count of
 /// that call's faults rose, and that call is the last one. `TooLong` comes where the byte after the limit was pulled, unless a
 /// say failed or there was no memory. `NoMemory` may always come; of the line in hand nothing was begun, put or said then.
-/// `JournalFault` never comes.
+/// `JournalFault` never comes. Of a run `lines` is how many lines were taken, of `soak` too, and of `generate` how many were
+/// said.
 /// Before each pull, all that was due for the lines pulled so far was out, whatever comes of the run.
 pub fn astream<R: Threads + Sync, D: Desk, G: Gate>(
     _rt: &R,
@@ -114,24 +120,58 @@ pub fn astream<R: Threads + Sync, D: Desk, G: Gate>(
     ensures read { (c : Config) (limit : ℕ) (input : List ℕ) → command_of (map string_bytes words.now) ≡ Some (Command.Run c limit) →
         (D.seen desk.old).left ≡ Some input → IsRead limit input result.status (D.seen desk.new).left }
 
+    // A soak is one say of what the generated lines come to.
+    ensures soaked { (c : Config) (number lines : ℕ) →
+        command_of (map string_bytes words.now) ≡ Some (Command.Soak c number lines) →
+        Does (D.seen desk.old) (D.seen desk.new) (IsSoaked c number lines result.status result.lines) }
+
+    // Generated lines are said one by one.
+    ensures generated { (number lines streams : ℕ) →
+        command_of (map string_bytes words.now) ≡ Some (Command.Generate number lines streams) →
+        Does (D.seen desk.old) (D.seen desk.new) (IsGenerated number lines streams result.status result.lines) }
+
     // An explanation is one say, and takes no line.
     ensures explained { (text : List ℕ) → command_of (map string_bytes words.now) ≡ Some (Command.Explain text) →
         Does (D.seen desk.old) (D.seen desk.new) (IsExplained text result.status) × (result.lines ≡ 0) }
 {
     match command_of(alloc, words) {
         Ok(Some(Command::Run { config, limit })) => run_within(alloc, desk, config, limit),
+        Ok(
+            Some(
+                Command::Soak {
+                    config,
+                    number,
+                    lines,
+                },
+            ),
+        ) => {
+            let (status, taken) = soak(alloc, desk, config, number, lines);
+            plain_report(alloc, status, taken)
+        }
+        Ok(
+            Some(
+                Command::Generate {
+                    number,
+                    lines,
+                    streams,
+                },
+            ),
+        ) => {
+            let (status, said) = generate(alloc, desk, number, lines, streams);
+            plain_report(alloc, status, said)
+        }
         Ok(Some(Command::Explain(text))) => {
             let status = explain(alloc, desk, &text);
-            empty_report(alloc, status)
+            plain_report(alloc, status, 0)
         }
-        Ok(None) => empty_report(alloc, Status::Usage),
-        Err(NoMemory) => empty_report(alloc, Status::NoMemory),
+        Ok(None) => plain_report(alloc, Status::Usage, 0),
+        Err(NoMemory) => plain_report(alloc, Status::NoMemory, 0),
     }
 }
 
 /// What `astream` comes to over an outside that never fails, for this input: nothing is kept of what is said and put.
 /// `Usage` comes exactly by the words. A run is `Done` where the input is within its limit, and `TooLong` where it is longer;
-/// else there was no memory. An explanation is `Done`, or there was no memory.
+/// else there was no memory. What only says something is `Done`, or there was no memory.
 pub fn rehearse<R: Threads + Sync, G: Gate>(
     rt: &R,
     alloc: Global,
@@ -142,8 +182,8 @@ pub fn rehearse<R: Threads + Sync, G: Gate>(
     ensures usage { IfOk result (λ report. (report.status ≡ Status.Usage) ↔ (command_of (map string_bytes words.now) ≡ None)) }
     ensures ended { IfOk result (λ report. (c : Config) (limit : ℕ) → command_of (map string_bytes words.now) ≡ Some (Command.Run c limit) →
         EndsSurely limit input.items report.status) }
-    ensures explained { IfOk result (λ report. (text : List ℕ) → command_of (map string_bytes words.now) ≡ Some (Command.Explain text) →
-        (report.status ≡ Status.Done) ⊎ (report.status ≡ Status.NoMemory)) }
+    ensures said { IfOk result (λ report. (command : Command) → command_of (map string_bytes words.now) ≡ Some command →
+        OnlySays command → (report.status ≡ Status.Done) ⊎ (report.status ≡ Status.NoMemory)) }
 {
     let mut desk = SureDesk::new(input)?;
     Ok(astream(rt, alloc, words, &mut desk, gate))

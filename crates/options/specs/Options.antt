@@ -5,7 +5,7 @@ use Rattle.std.specs.List.{list_any}
 use Rattle.std.specs.Str.{bytes_eq}
 use Rattle.as_words.specs.Number.{natural}
 use Rattle.options.specs.declared.option.NumberOption.{NumberOption}
-use Rattle.options.specs.declared.option.NumberOption.TheVariants.{Streams, Slots, MaxBytes}
+use Rattle.options.specs.declared.option.NumberOption.TheVariants.{Streams, Slots, MaxBytes, Number, Lines}
 use Rattle.options.specs.declared.option.Span.{Span}
 
 -- the name of an option
@@ -13,12 +13,16 @@ abbrev pub name_of : NumberOption → List ℕ
 name_of Streams = codes "--streams"
 name_of Slots = codes "--slots"
 name_of MaxBytes = codes "--max-bytes"
+name_of Number = codes "--number"
+name_of Lines = codes "--lines"
 
--- the least and the greatest number of an option, and the one where it is not given
+-- the least and the greatest number of an option, and the one where it is not given; none where it has to be
 abbrev pub span_of : NumberOption → Span
 span_of Streams = record { least = 2; greatest = 4; default = Some 4 }
 span_of Slots = record { least = 1; greatest = 512; default = Some 64 }
 span_of MaxBytes = record { least = 0; greatest = 2 ^ 40; default = Some (2 ^ 40) }
+span_of Number = record { least = 0; greatest = 9223372036854775807; default = None }
+span_of Lines = record { least = 0; greatest = 10000000; default = None }
 
 -- an option has this name
 abbrev pub is_known : List NumberOption → List ℕ → Bool

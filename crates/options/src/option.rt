@@ -10,6 +10,10 @@ pub enum NumberOption {
     Slots,
     /// `--max-bytes`: how many bytes of input are taken at most, 0 to 2^40; 2^40 where it is not given.
     MaxBytes,
+    /// `--number`: what generated lines come of, 0 to 2^63 - 1. It has to be given.
+    Number,
+    /// `--lines`: how many lines are generated, 0 to 10,000,000. It has to be given.
+    Lines,
 }
 
 /// Which numbers an option takes.
@@ -29,6 +33,8 @@ pub fn name_of(option: NumberOption) -> &'static [u8]
         NumberOption::Streams => b"--streams",
         NumberOption::Slots => b"--slots",
         NumberOption::MaxBytes => b"--max-bytes",
+        NumberOption::Number => b"--number",
+        NumberOption::Lines => b"--lines",
     }
 }
 
@@ -51,6 +57,16 @@ pub fn span_of(option: NumberOption) -> Span
             least: 0,
             greatest: 1_099_511_627_776,
             default: Some(1_099_511_627_776),
+        },
+        NumberOption::Number => Span {
+            least: 0,
+            greatest: 9_223_372_036_854_775_807,
+            default: None,
+        },
+        NumberOption::Lines => Span {
+            least: 0,
+            greatest: 10_000_000,
+            default: None,
         },
     }
 }

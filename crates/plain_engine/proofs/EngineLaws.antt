@@ -1,7 +1,6 @@
 -- What the plain engine stands for after one more item, and what the item brings about.
-use Rattle.std.proofs.Common.{◌≡◌, ℕ, ◌+◌, ◌≤◌, ◌<◌, eqb, Bool, true, false, cond, zero, suc, Result, Ok, Err, IfOk, Some, None, List, [], ◌∷◌, ◌++◌, map, length, refl, sym, ap, subst, ◌∙◌, append-nil, arith}
-use Rattle.std.specs.List.{range_with_len, AllByRecursion}
-use Rattle.std.proofs.lemmas.Bool.{ne_eqb, eqb-true}
+use Rattle.std.proofs.Common.{◌≡◌, ℕ, ◌<◌, false, Result, Ok, Err, IfOk, Some, None, List, [], ◌∷◌, ◌++◌, map, sym, ap, subst, ◌∙◌, append-nil, arith}
+use Rattle.std.specs.List.{AllByRecursion}
 use Rattle.as_base.specs.declared.config.Config.{Config}
 use Rattle.as_base.specs.declared.item.Item.{Item}
 use Rattle.as_base.specs.declared.answer.Fed.{Fed}
@@ -9,55 +8,30 @@ use Rattle.as_base.specs.declared.answer.Piece.{Piece}
 use Rattle.as_base.specs.declared.message.Msg.{Msg}
 use Rattle.as_base.specs.Range.{InRange}
 use Rattle.as_base.specs.Times.{times}
-use Rattle.as_base.proofs.TimesLaws.{times-append, times-cons}
+use Rattle.as_base.proofs.TimesLaws.{times-append}
 use Rattle.views.specs.View.{View}
 use Rattle.views.specs.Message.{after}
 use Rattle.views.specs.Query.{Query}
 use Rattle.views.proofs.ListLaws.{All-push}
 use Rattle.row_text.specs.RowText.{text_of as text_by}
 use Rattle.session.specs.Answers.{answer_to}
-use Rattle.session.specs.Book.{book, numbers}
+use Rattle.session.specs.Book.{numbers}
 use Rattle.session.specs.Message.{message}
 use Rattle.session.specs.Outcome.{Adds, IsFed, created}
 use Rattle.session.specs.Session.{StandsFor as SessionStands}
 use Rattle.session.specs.View.{view, text_of}
-use Rattle.session.proofs.BookLaws.{book-in_order}
+use Rattle.session.proofs.NumberLaws.{number_once}
 use Rattle.session.proofs.ViewLaws.{view-message, view-same, numbers-created}
 use Rattle.plain_engine.specs.Store.{StandsFor as StoreStands, GrowsBy}
 use Rattle.plain_engine.specs.declared.engine.PlainEngine.{PlainEngine}
 use Rattle.plain_engine.specs.Engine.{StandsFor}
 
-times_low : (n a k : ℕ) → n < a → times n (range_with_len a k) ≡ 0
-times_low n a zero low = refl
-times_low n a (suc k) low =
-    let here : times n (a ∷ []) ≡ 0 = ap (λ b. 0 + cond b 1 0) (ne_eqb a n (λ same. omega (arith, low, same))) in
-    let rest = times_low n (a + 1) k (omega (arith, low)) in
-    let all = times-cons n a (range_with_len (a + 1) k) in
-    omega (arith, here, rest, all)
-
--- among numbers that rise by one, each stands at most once
-times_once : (n a k : ℕ) → times n (range_with_len a k) ≤ 1
-times_once n a zero = omega arith
-times_once n a (suc k) = go (eqb a n) refl (times_once n (a + 1) k)
-  where
-    go : (b : Bool) → eqb a n ≡ b → times n (range_with_len (a + 1) k) ≤ 1 → times n (range_with_len a (suc k)) ≤ 1
-    go true is others =
-        let same = eqb-true a n is in
-        let here : times n (a ∷ []) ≡ 1 = ap (λ b. 0 + cond b 1 0) is in
-        let rest = times_low n (a + 1) k (omega (arith, same)) in
-        let all = times-cons n a (range_with_len (a + 1) k) in
-        omega (arith, here, rest, all)
-    go false is others =
-        let here : times n (a ∷ []) ≡ 0 = ap (λ b. 0 + cond b 1 0) is in
-        let all = times-cons n a (range_with_len (a + 1) k) in
-        omega (arith, here, others, all)
-
 -- a query that an item makes has a number of its own
 fresh : (c : Config) (h : List Item) (x : Item) (n : ℕ) → 0 < times n (created (answer_to c h x)) → times n (numbers c h) ≡ 0
 fresh c h x n some =
-    let whole = ap (times n) (sym (numbers-created c h x) ∙ book-in_order c (h ++ x ∷ [])) in
+    let whole = ap (times n) (sym (numbers-created c h x)) in
     let parts = times-append n (numbers c h) (created (answer_to c h x)) in
-    let once = times_once n 1 (length (book c (h ++ x ∷ []))) in
+    let once = number_once c (h ++ x ∷ []) n in
     omega (arith, some, whole, parts, once)
 
 -- where no text is another, no piece is owed

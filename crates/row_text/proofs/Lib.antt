@@ -1,4 +1,5 @@
 pub mod TextLaws
+pub mod FeedLaws
 pub mod TakingLaws
 pub mod RowLaws
 pub mod ReadingLaws

@@ -11,3 +11,6 @@ pub mod ViewLaws
 pub mod FollowLaws
 pub mod TextLaws
 pub mod OutputLaws
+pub mod NumberLaws
+pub mod MeasureLaws
+pub mod CountLaws

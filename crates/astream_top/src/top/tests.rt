@@ -1,4 +1,7 @@
 use super::*;
+
+mod generated;
+
 use as_base::Bytes;
 use as_outside::{Entry, FreeGate, MemDesk};
 use as_words::append_decimal;
@@ -455,7 +458,9 @@ fn other_words_touch_nothing(rt: HostRuntime) -> Result<(), Fail> {
     is_usage(&rt, alloc, "run --slots 4 --slots 4")?;
     is_usage(&rt, alloc, "run --lane=1")?;
     is_usage(&rt, alloc, "run --max-bytes 1099511627777")?;
-    is_usage(&rt, alloc, "run --max-bytes")
+    is_usage(&rt, alloc, "run --max-bytes")?;
+    is_usage(&rt, alloc, "soak --lines 5")?;
+    is_usage(&rt, alloc, "generate --number 1 --lines 10000001")
 }
 
 #[test]

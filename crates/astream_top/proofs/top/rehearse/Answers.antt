@@ -1,5 +1,5 @@
-use Rattle.std.proofs.Common.{refl, sym, ap, ◌∙◌, true≢false, is_none}
-use Rattle.astream_top.proofs.CauseLaws.{surely, surely_explained}
+use Rattle.std.proofs.Common.{Some, refl, sym, ap, ◌∙◌, true≢false, is_none}
+use Rattle.astream_top.proofs.CauseLaws.{surely, surely_said, ends}
 use Rattle.astream_top.proofs.top.rehearse.Goals as goal
 
 pub returns-clause-ended : goal.returns-clause-ended
@@ -10,9 +10,9 @@ returns-clause-ended g c = λ d limit is.
     surely limit input report.status report.broken _ _ _ refl refl refl refl (λ n. refl) (λ n. refl) all.causes (all.read d limit input is c.in_ok-desk.ensures.left)
     (λ used. true≢false (sym (ap is_none (all.usage.0 used)) ∙ ap is_none is))
 
-pub returns-clause-explained : goal.returns-clause-explained
-returns-clause-explained g c = λ text is.
+pub returns-clause-said : goal.returns-clause-said
+returns-clause-said g c = λ command is only.
     let report = c.astream.result in
     let all = c.astream.ensures in
-    let said = (all.explained text is).0 in
-    surely_explained text report.status report.broken said.calls _ _ refl refl all.causes said.holds
+    surely_said report.status report.broken _ _ refl refl all.causes
+    (ends command report.status report.lines _ _ only (λ d seed lines e. all.soaked d seed lines (is ∙ ap Some e)) (λ seed lines streams e. all.generated seed lines streams (is ∙ ap Some e)) (λ text e. (all.explained text (is ∙ ap Some e)).0))

@@ -9,10 +9,10 @@ use Rattle.astream_top.proofs.PullLaws.{ended_early}
 use Rattle.astream_top.proofs.top.run_within.Goals as goal
 
 pub returns-in-Err-clause-ended : goal.returns-in-Err-clause-ended
-returns-in-Err-clause-ended g c = rw c.empty_report.ensures (record { calls = []; makes = makes_none _; holds = ended_early c.args.config c.args.limit })
+returns-in-Err-clause-ended g c = rw c.plain_report.ensures (record { calls = []; makes = makes_none _; holds = ended_early c.args.config c.args.limit })
 
 pub returns-in-Err-start-clause-ended : goal.returns-in-Err-start-clause-ended
-returns-in-Err-start-clause-ended g c = rw c.empty_report-in-Err-start.ensures (record { calls = []; makes = makes_none _; holds = ended_early c.args.config c.args.limit })
+returns-in-Err-start-clause-ended g c = rw c.plain_report-in-Err-start.ensures (record { calls = []; makes = makes_none _; holds = ended_early c.args.config c.args.limit })
 
 pub returns-clause-causes : goal.returns-clause-causes
 returns-clause-causes g c =
