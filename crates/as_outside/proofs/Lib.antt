@@ -3,3 +3,4 @@ pub mod LogLaws
 pub mod FailureLaws
 pub mod OutputLaws
 pub mod MakesLaws
+pub mod SourceLaws

@@ -20,11 +20,11 @@ tells_after a b c xs ys first second now is =
     (earlier.0, earlier.1, later.2 ∙ ap (λ s. s ++ ys) earlier.2 ∙ append_assoc earlier.0 xs ys)
 
 -- nothing is taken where what is left stays
-takes_none : (x : Option (List ℕ)) → Takes x x []
+pub takes_none : (x : Option (List ℕ)) → Takes x x []
 takes_none None = refl
 takes_none (Some rest) = refl
 
-takes_after : (a b c : Option (List ℕ)) (xs ys : List ℕ) → Takes a b xs → Takes b c ys → Takes a c (xs ++ ys)
+pub takes_after : (a b c : Option (List ℕ)) (xs ys : List ℕ) → Takes a b xs → Takes b c ys → Takes a c (xs ++ ys)
 takes_after a b None xs ys first second = first ∙ ap (option_map (λ rest. xs ++ rest)) second
 takes_after a b (Some rest) xs ys first second = first ∙ ap (option_map (λ more. xs ++ more)) second ∙ ap Some (sym (append_assoc xs ys rest))
 
@@ -36,14 +36,14 @@ Rose-before : (a b c : ℕ) → Rose a b → b ≤ c → Rose a c
 Rose-before a b c rose above = (omega (arith, rose.0), ⊎_elim (λ h. inl (omega arith)) (λ h. inr (omega arith)) rose.1)
 
 -- no call that it counts failed
-kept : (a b : ℕ) → b ≡ a → Counts 0 a b
+pub kept : (a b : ℕ) → b ≡ a → Counts 0 a b
 kept a b same = record { stays = λ _. same; rose = λ some. absurd (omega (arith, some)) }
 
 -- one did
 raised : (a b : ℕ) → Rose a b → Counts 1 a b
 raised a b rose = record { stays = λ none. absurd (omega (arith, none)); rose = λ _. rose }
 
-Counts-append : (f g a b c : ℕ) → Counts f a b → Counts g b c → Counts (f + g) a c
+pub Counts-append : (f g a b c : ℕ) → Counts f a b → Counts g b c → Counts (f + g) a c
 Counts-append zero g a b c first second =
     let same = first.stays refl in
     record {

@@ -3,6 +3,7 @@ pub mod Failures
 pub mod Entries
 pub mod Outputs
 pub mod Makes
+pub mod Sources
 pub mod Report
 pub mod Script
 pub mod CallLog

@@ -1,4 +1,4 @@
--- What the script of a desk in memory says of a call and of a pull.
+-- What the script of a desk in memory says of a call, and what the cuts of a desk or a source in memory say of a pull.
 use Rattle.std.specs.Prelude.{ℕ, ◌==◌, if◌then◌else◌, Option, None, Some, List, [], ◌∷◌, slice_index_or, min}
 
 -- how many bytes move before the call with this number fails, by the first entry for it; none: it does not fail

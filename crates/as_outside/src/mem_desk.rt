@@ -1,12 +1,13 @@
 ghost use Rattle.std.specs.Prelude.{◌≡◌, ◌+◌, ℕ, List, [], Some, take, IfOk, IfSome};
 ghost use Rattle.as_words.specs.Prefix.{IsPrefix};
-ghost use Rattle.as_outside.specs.Makes.{Rose};
 
 mod call_log;
 mod script;
 #[cfg(test)]
 mod tests;
 
+use crate::cuts::Cuts;
+use crate::faults::raise;
 use crate::tape::Tape;
 use crate::{Desk, Entry, Failed, Shelf};
 use as_base::{Bytes, NoMemory};
@@ -26,13 +27,6 @@ pub struct MemDesk {
     pulls_failed: u64,
     // the failed begins and puts that no entry tells of; they count for each output
     outputs_failed: u64,
-}
-
-// Counts one more fault.
-fn raise(count: &mut u64)
-    ensures { Rose count.old count.new }
-{
-    *count = count.saturating_add(1);
 }
 
 // A copy of the bytes, if there is memory.
@@ -77,10 +71,9 @@ impl MemDesk {
             log: CallLog::new(alloc),
             tape: Tape::new(input),
             script: Script {
-                cuts,
+                cuts: Cuts::new(cuts),
                 fails,
                 calls: 0,
-                pulls: 0,
             },
             says_failed: 0,
             notes_failed: 0,
@@ -198,7 +191,7 @@ impl Shelf for MemDesk {
 impl Desk for MemDesk {
     #[tactic(auto, using(crate::proofs::MakesLaws::pulled_makes))]
     fn pull(&mut self, buf: &mut [u8]) -> Result<usize, Failed> {
-        let most = self.script.next_cut(buf.len());
+        let most = self.script.cuts.next(buf.len());
         if self.script.next_call().is_some() {
             self.log.keep(Some(Entry::PullFailed));
             raise(&mut self.pulls_failed);

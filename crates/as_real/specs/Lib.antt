@@ -1,1 +1,2 @@
 pub mod OutputFaults
+pub mod Outlets

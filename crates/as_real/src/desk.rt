@@ -1,15 +1,12 @@
 ghost use Rattle.std.specs.Prelude.{◌≡◌, ℕ, None};
-ghost use Rattle.as_outside.specs.Makes.{Rose};
 
 #[cfg(test)]
 mod tests;
 
-use crate::bytes::{read_some, write_whole};
-use crate::output_faults::OutputFaults;
-use crate::output_file::{append, make};
+use crate::bytes::read_some;
+use crate::outlets::Outlets;
 use as_outside::{Desk, Failed, Shelf};
 use std::alloc::Global;
-use std::io;
 use std::rt::Files;
 
 /// The outside of a program: it pulls from standard input, says to standard output, and keeps output n in the file
@@ -22,12 +19,7 @@ use std::rt::Files;
 pub struct RealDesk<'a, R: Files + Input + Print> {
     rt: &'a R,
     reader: R::Reader,
-    // a buffer for the name of the file in hand
-    name: String,
-    says: u64,
-    notes: u64,
-    pulls: u64,
-    outputs: OutputFaults,
+    outlets: Outlets,
 }
 
 impl<'a, R: Files + Input + Print> RealDesk<'a, R> {
@@ -43,68 +35,31 @@ impl<'a, R: Files + Input + Print> RealDesk<'a, R> {
         RealDesk {
             rt,
             reader: rt.reader(),
-            name: String::new(alloc),
-            says: 0,
-            notes: 0,
-            pulls: 0,
-            outputs: OutputFaults::new(alloc),
+            outlets: Outlets::new(alloc),
         }
     }
 }
 
-// Counts a fault; the count stays at its last value.
-fn raise(count: &mut u64) -> Failed
-    ensures { Rose count.old count.new }
-{
-    *count = count.saturating_add(1);
-    Failed
-}
-
 impl<R: Files + Input + Print> Shelf for RealDesk<'_, R> {
-    ghost use Rattle.as_real.specs.OutputFaults.{faults_of};
+    ghost use Rattle.as_real.specs.Outlets.{seen_of};
 
-    ghost seen = { λ d. record {
-      log = None;
-      left = None;
-      faults = record {
-        say = d.says;
-        note = d.notes;
-        pull = d.pulls;
-        output = faults_of d.outputs;
-      };
-    } };
+    ghost seen = { λ d. seen_of d.outlets };
 
     fn say(&mut self, bytes: &[u8]) -> Result<(), Failed> {
-        match write_whole(&mut io::writer(self.rt), bytes) {
-            Ok(()) => Ok(()),
-            Err(_) => Err(raise(&mut self.says)),
-        }
+        self.outlets.say(self.rt, bytes)
     }
 
     // There is no journal here, so a note would be lost.
     fn note(&mut self, _bytes: &[u8]) -> Result<(), Failed> {
-        Err(raise(&mut self.notes))
+        Err(self.outlets.note_failed())
     }
 
-    #[tactic(auto, using(crate::proofs::FaultLaws::begin_apart, crate::proofs::FaultLaws::begin_rose))]
     fn begin(&mut self, n: u64) -> Result<(), Failed> {
-        match make(self.rt, &mut self.name, n) {
-            Ok(()) => Ok(()),
-            Err(failed) => {
-                self.outputs.raise(n);
-                Err(failed)
-            }
-        }
+        self.outlets.begin(self.rt, n)
     }
 
     fn put(&mut self, n: u64, bytes: &[u8]) -> Result<(), Failed> {
-        match append(self.rt, &mut self.name, n, bytes) {
-            Ok(()) => Ok(()),
-            Err(failed) => {
-                self.outputs.raise(n);
-                Err(failed)
-            }
-        }
+        self.outlets.put(self.rt, n, bytes)
     }
 }
 
@@ -112,7 +67,7 @@ impl<R: Files + Input + Print> Desk for RealDesk<'_, R> {
     fn pull(&mut self, buf: &mut [u8]) -> Result<usize, Failed> {
         match read_some(&mut self.reader, buf) {
             Ok(read) => Ok(read),
-            Err(_) => Err(raise(&mut self.pulls)),
+            Err(_) => Err(self.outlets.pull_failed()),
         }
     }
 }

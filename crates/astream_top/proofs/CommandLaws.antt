@@ -3,12 +3,12 @@ use Rattle.std.proofs.Common.{◌≡◌, ◌≤◌, ◌<◌, ◌^◌, ℕ, Bool,
 use Rattle.std.proofs.lemmas.Bool.{and_from, le-leb}
 use Rattle.as_base.specs.declared.config.Config.{Config}
 use Rattle.as_base.specs.Config.{fits}
-use Rattle.options.specs.Options.{are_pairs, number, span_of, IsWithin}
+use Rattle.options.specs.Options.{are_pairs, number, span_of, IsWithin, config_of}
 use Rattle.options.specs.declared.option.NumberOption.TheVariants.{Streams, Slots, MaxBytes, Number, Lines}
 use Rattle.options.proofs.NumberLaws.{number_within}
 use Rattle.astream_top.specs.declared.command.Command.{Command}
 use Rattle.astream_top.specs.declared.command.Command.TheVariants.{Run, Soak, Generate, Explain}
-use Rattle.astream_top.specs.Command.{run_options, config_of, run_of, run_with, soak_options, soak_of, soak_with, generate_options, generate_of, generate_with, text_of_words, command_of}
+use Rattle.astream_top.specs.Command.{run_options, run_of, run_with, soak_options, soak_of, soak_with, generate_options, generate_of, generate_with, text_of_words, command_of}
 
 -- the configuration of a run is in its ranges, and its limit is at most 2^40; so are those of the others, and their lines
 -- are at most 10,000,000

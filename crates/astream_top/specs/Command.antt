@@ -7,7 +7,7 @@ use Rattle.as_words.specs.Words.{is_word, joined}
 use Rattle.as_base.specs.declared.config.Config.{Config}
 use Rattle.options.specs.declared.option.NumberOption.{NumberOption}
 use Rattle.options.specs.declared.option.NumberOption.TheVariants.{Streams, Slots, MaxBytes, Number, Lines}
-use Rattle.options.specs.Options.{are_pairs, number}
+use Rattle.options.specs.Options.{are_pairs, number, config_of}
 use Rattle.astream_top.specs.declared.command.Command.{Command}
 use Rattle.astream_top.specs.declared.command.Command.TheVariants.{Run, Soak, Generate, Explain}
 
@@ -22,11 +22,6 @@ text_of_words words = if are_text words then Some (joined words) else None
 -- the options of `run`
 abbrev pub run_options : List NumberOption
 run_options = Streams ∷ Slots ∷ MaxBytes ∷ []
-
--- a configuration of so many streams and slots; work is not spread over parts yet
-abbrev pub config_of : Option ℕ → Option ℕ → Option Config
-config_of (Some streams) (Some slots) = Some (record { streams = streams; slots = slots; parts = 4; lane = 1024 })
-config_of _ _ = None
 
 -- the run of this configuration that takes at most so many bytes
 abbrev pub run_of : Option Config → Option ℕ → Option Command

@@ -1,13 +1,11 @@
 ghost use Rattle.std.specs.Prelude.{◌≡◌, IfOk, OnErr, true, nat_le, length, map, string_bytes};
 ghost use Rattle.std.specs.List.{list_all};
 ghost use Rattle.as_words.specs.Words.{is_word, joined};
-ghost use Rattle.astream_top.specs.Command.{are_text, text_of_words, config_of, run_with, soak_with, generate_with, command_of, IsExplanation};
-ghost use Rattle.options.specs.Options.{number};
-ghost use Rattle.options.specs.declared.option.NumberOption.TheVariants.{Streams, Slots};
+ghost use Rattle.astream_top.specs.Command.{are_text, text_of_words, run_with, soak_with, generate_with, command_of, IsExplanation};
 
 use as_base::{Config, NoMemory, Text};
 use as_words::is_word;
-use options::{NumberOption, are_pairs, number};
+use options::{NumberOption, are_pairs, config_of, number};
 use std::alloc::Global;
 
 /// How many bytes a query text may have.
@@ -34,12 +32,6 @@ const GENERATE_OPTIONS: [NumberOption; 3] = [
     NumberOption::Lines,
     NumberOption::Streams,
 ];
-
-/// Over how many parts the work is to be spread, once it is.
-const PARTS: u16 = 4;
-
-/// How many messages are to wait before each part at most.
-const LANE: u32 = 1024;
 
 /// What the words of a call ask for.
 #[derive(Debug, Drop)]
@@ -104,20 +96,6 @@ fn text_of_words(alloc: Global, words: &[String]) -> Result<Option<Text>, NoMemo
     }
     let joined = words.join(alloc, " ")?;
     Ok(Some(Text::from_vec(joined.into_bytes())))
-}
-
-// A configuration by the options of the words, which are pairs, if these options are well given.
-fn config_of(words: &[String]) -> Option<Config>
-    ensures { result ≡ config_of (number Streams (map string_bytes words.now)) (number Slots (map string_bytes words.now)) }
-{
-    let streams = number(words, NumberOption::Streams)?;
-    let slots = number(words, NumberOption::Slots)?;
-    Some(Config {
-        streams: streams as u8,
-        slots: slots as u16,
-        parts: PARTS,
-        lane: LANE,
-    })
 }
 
 // What `run` is asked for by its options, if they are well given.

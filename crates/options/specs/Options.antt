@@ -4,8 +4,9 @@ use Rattle.std.specs.Option.{option_and_then}
 use Rattle.std.specs.List.{list_any}
 use Rattle.std.specs.Str.{bytes_eq}
 use Rattle.as_words.specs.Number.{natural}
+use Rattle.as_base.specs.declared.config.Config.{Config}
 use Rattle.options.specs.declared.option.NumberOption.{NumberOption}
-use Rattle.options.specs.declared.option.NumberOption.TheVariants.{Streams, Slots, MaxBytes, Number, Lines}
+use Rattle.options.specs.declared.option.NumberOption.TheVariants.{Streams, Slots, MaxBytes, Inbox, Number, Lines}
 use Rattle.options.specs.declared.option.Span.{Span}
 
 -- the name of an option
@@ -13,6 +14,7 @@ abbrev pub name_of : NumberOption → List ℕ
 name_of Streams = codes "--streams"
 name_of Slots = codes "--slots"
 name_of MaxBytes = codes "--max-bytes"
+name_of Inbox = codes "--inbox"
 name_of Number = codes "--number"
 name_of Lines = codes "--lines"
 
@@ -21,6 +23,7 @@ abbrev pub span_of : NumberOption → Span
 span_of Streams = record { least = 2; greatest = 4; default = Some 4 }
 span_of Slots = record { least = 1; greatest = 512; default = Some 64 }
 span_of MaxBytes = record { least = 0; greatest = 2 ^ 40; default = Some (2 ^ 40) }
+span_of Inbox = record { least = 1; greatest = 65536; default = Some 256 }
 span_of Number = record { least = 0; greatest = 9223372036854775807; default = None }
 span_of Lines = record { least = 0; greatest = 10000000; default = None }
 
@@ -61,3 +64,8 @@ number_by s (value ∷ other ∷ values) = None
 -- The option's number by such words.
 abbrev pub number : NumberOption → List (List ℕ) → Option ℕ
 number o words = number_by (span_of o) (values_of (name_of o) words)
+
+-- a configuration of so many streams and slots; work is not spread over parts yet
+abbrev pub config_of : Option ℕ → Option ℕ → Option Config
+config_of (Some streams) (Some slots) = Some (record { streams = streams; slots = slots; parts = 4; lane = 1024 })
+config_of _ _ = None

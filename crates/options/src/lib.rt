@@ -4,9 +4,11 @@
 ghost use Rattle.std.specs.Prelude.{◌≡◌, map, string_bytes, IfSome};
 ghost use Rattle.options.specs.Options.{span_of, is_known, are_pairs, within, number, IsWithin};
 
+mod config;
 mod option;
 
 use as_words::parse_natural;
+pub use config::config_of;
 pub use option::NumberOption;
 use option::{Span, name_of, span_of};
 

@@ -10,6 +10,8 @@ pub enum NumberOption {
     Slots,
     /// `--max-bytes`: how many bytes of input are taken at most, 0 to 2^40; 2^40 where it is not given.
     MaxBytes,
+    /// `--inbox`: for how many loads an inbox has room, 1 to 65,536; 256 where it is not given.
+    Inbox,
     /// `--number`: what generated lines come of, 0 to 2^63 - 1. It has to be given.
     Number,
     /// `--lines`: how many lines are generated, 0 to 10,000,000. It has to be given.
@@ -33,6 +35,7 @@ pub fn name_of(option: NumberOption) -> &'static [u8]
         NumberOption::Streams => b"--streams",
         NumberOption::Slots => b"--slots",
         NumberOption::MaxBytes => b"--max-bytes",
+        NumberOption::Inbox => b"--inbox",
         NumberOption::Number => b"--number",
         NumberOption::Lines => b"--lines",
     }
@@ -57,6 +60,11 @@ pub fn span_of(option: NumberOption) -> Span
             least: 0,
             greatest: 1_099_511_627_776,
             default: Some(1_099_511_627_776),
+        },
+        NumberOption::Inbox => Span {
+            least: 1,
+            greatest: 65_536,
+            default: Some(256),
         },
         NumberOption::Number => Span {
             least: 0,

@@ -1,0 +1,8 @@
+ghost use Rattle.as_outside.specs.Makes.{Rose};
+
+/// Counts one more fault; the count stays at its last value, 2^64 - 1.
+pub fn raise(count: &mut u64)
+    ensures { Rose count.old count.new }
+{
+    *count = count.saturating_add(1);
+}

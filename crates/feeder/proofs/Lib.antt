@@ -1,0 +1,3 @@
+pub mod MakingLaws
+pub mod GoingLaws
+pub mod EndLaws

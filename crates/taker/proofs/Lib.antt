@@ -1,0 +1,4 @@
+pub mod FeedLaws
+pub mod JournalLaws
+pub mod WovenLaws
+pub mod GatherLaws

@@ -1,0 +1,4 @@
+pub mod InterleaveLaws
+pub mod EndingLaws
+pub mod CauseLaws
+pub mod WholeLaws

@@ -1,0 +1,25 @@
+pub mod Weaving
+pub mod Interleave
+pub mod Sources
+pub mod Loom
+pub mod Outcome
+pub mod Fed
+pub mod Ends
+pub mod Causes
+pub mod Rows
+pub use Rattle.as_base.specs.Config
+pub use Rattle.options.specs.Options
+pub use Rattle.as_outside.specs.Log
+pub use Rattle.as_outside.specs.Failures
+pub use Rattle.as_outside.specs.Outputs
+pub use Rattle.as_outside.specs.Makes
+pub use Rattle.as_outside.specs.Sources as OutsideSources
+pub use Rattle.as_lineform.specs.Lines
+pub use Rattle.as_lineform.specs.Spelling
+pub use Rattle.inbox.specs.Passes
+pub use Rattle.feeder.specs.Maker
+pub use Rattle.feeder.specs.Loads
+pub use Rattle.taker.specs.Journal
+pub use Rattle.service.specs.AnswerText
+pub use Rattle.service.specs.Due
+pub use Rattle.service.specs.Stop
