@@ -8,14 +8,19 @@ use std::time::Duration;
 /// After so many turns in vain a thread sleeps.
 const TURNS_MAX: u32 = 64;
 
-/// How long it then sleeps at most, in microseconds.
-const NAP_MICROS: u64 = 200;
+/// How long it sleeps at first, in microseconds, and then twice as long each time.
+const NAP_FIRST: u64 = 50;
+
+/// How long it sleeps at most, in microseconds.
+const NAP_MOST: u64 = 1600;
 
 /// What a thread does that tries something again and again: after a turn in vain it lets others run, and after 64 in a row
-/// it sleeps a little. Contracts see how many turns in a row were in vain, 64 at most.
+/// it sleeps a little, longer and longer up to a limit. Contracts see how many turns in a row were in vain, 64 at most.
 #[derive(Drop)]
 pub struct Patience {
     turns: u32,
+    // How long it sleeps next, in microseconds.
+    nap: u64,
     parker: Parker,
 }
 
@@ -26,7 +31,7 @@ impl Model for Patience {
 
     ghost view = { λ p. p.turns };
 
-    ghost invariant = { λ p. p.turns ≤ 64 };
+    ghost invariant = { λ p. (p.turns ≤ 64) × (p.nap ≤ 1600) };
 }
 
 impl Patience {
@@ -36,6 +41,7 @@ impl Patience {
     {
         Patience {
             turns: 0,
+            nap: NAP_FIRST,
             parker: Parker::new(),
         }
     }
@@ -46,12 +52,14 @@ impl Patience {
     {
         if got_on {
             self.turns = 0;
+            self.nap = NAP_FIRST;
         } else if self.turns < TURNS_MAX {
             self.turns += 1;
             yield_now();
         } else {
             self.parker
-                .park_timeout(rt, Duration::from_micros(NAP_MICROS));
+                .park_timeout(rt, Duration::from_micros(self.nap));
+            self.nap = NAP_MOST.min(2 * self.nap);
         }
     }
 }
