@@ -1,4 +1,5 @@
-ghost use Rattle.std.specs.Prelude.{ℕ, ◌≡◌, ◌<◌, ◌≤◌, ◌^◌, ◌-◌, ◌++◌, [], ◌∷◌, None, true, slice_set, List};
+ghost use Rattle.std.specs.Prelude.{ℕ, ◌≡◌, ◌<◌, ◌≤◌, ◌^◌, ◌+◌, ◌-◌, ◌++◌, [], ◌∷◌, None, true, length, if◌then◌else◌, slice_set, List};
+ghost use Rattle.std.specs.List.{list_all};
 ghost use Rattle.as_base.specs.declared.config.Config.{Config};
 ghost use Rattle.as_base.specs.Range.{IsSpelled};
 ghost use Rattle.as_outside.specs.declared.entry.Entry.{Entry};
@@ -52,7 +53,8 @@ impl<E: QueryEngine> Gather<E> {
 
     /// The last loads of all five were taken.
     pub fn is_over(&self) -> bool
-        ensures { (t : List (ℕ × Load)) → AreMarked self.now.ended t → result ≡ true → AllEnded t }
+        ensures ended { (t : List (ℕ × Load)) → AreMarked self.now.ended t → result ≡ true → AllEnded t }
+        ensures marks { result ≡ list_all (λ mark. mark) self.now.ended }
     {
         let [one, two, three, four, five] = self.ended;
         one && two && three && four && five
@@ -121,6 +123,7 @@ impl<E: QueryEngine> Gather<E> {
         requires few { self.old.halt ≡ None → E.count self.old.taker.processor.engine ≤ 2 ^ 61 }
         requires marked { AreMarked self.old.ended (taken self.old.pass) }
         ensures inbox { taker_inbox self.new.pass ≡ taker_inbox self.old.pass }
+        ensures took { length (taken self.new.pass) ≡ length (taken self.old.pass) + (if result then 1 else 0) }
         ensures few { self.new.halt ≡ None → E.count self.new.taker.processor.engine ≤ 2 ^ 61 }
         ensures marked { AreMarked self.new.ended (taken self.new.pass) }
         ensures at { (c : Config) (calls : List Entry) → StandsAfter E.QueryEngine c self.old calls →

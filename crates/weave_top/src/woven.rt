@@ -118,7 +118,8 @@ fn run<
     ensures keeps { Keeps E.QueryEngine desk.new.gather.now }
     ensures ended { AllEnded (taken desk.new.gather.now.pass) }
     ensures stands { (c : Config) (calls : List Entry) → StandsAfter E.QueryEngine c desk.old.gather.now calls →
-        Does (K.seen desk.old.shelf.now) (K.seen desk.new.shelf.now) (λ more. StandsAfter E.QueryEngine c desk.new.gather.now (calls ++ more)) }
+        Does (K.seen desk.old.shelf.now) (K.seen desk.new.shelf.now) (λ more.
+        StandsAfter E.QueryEngine c desk.new.gather.now (calls ++ more)) }
     ensures kept { AreKept F.Source (all_of feeders) desk.new.five.now }
 {
     run_team(rt, inbox, gate, skips, feeders, desk)
