@@ -57,6 +57,15 @@ impl QuerySet {
         }
     }
 
+    /// The words whose bits are the slots, as `from_words` takes them.
+    pub fn words(&self) -> [u64; 8]
+        ensures words { IsWords result }
+        ensures value { slots_of result ≡ self.now }
+        ensures slots { length self.now ≡ 512 }
+    {
+        self.lanes().to_array()
+    }
+
     /// The slots that are in both sets.
     #[tactic(auto, using(crate::proofs::Words::operations))]
     pub fn and(&self, o: &QuerySet) -> QuerySet

@@ -11,3 +11,5 @@ pub mod GivenLaws
 pub mod PassedLaws
 pub mod DueLaws
 pub mod AlikeLaws
+pub mod SlotLaws
+pub mod CutLaws

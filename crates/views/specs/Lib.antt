@@ -8,7 +8,10 @@ pub mod Rows
 pub mod Alike
 pub mod Message
 pub mod IsView
+pub mod Slots
+pub mod IsHolder
 pub mod Worked
+pub mod WorkedSlots
 pub use Rattle.as_words.specs.Prefix
 pub use Rattle.as_base.specs.declared.item.Record
 pub use Rattle.as_base.specs.declared.message.Change

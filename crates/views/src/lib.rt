@@ -2,6 +2,8 @@
 //! definitions stand in `specs/`; the functions here are their laws.
 #![tactic(auto)]
 
+mod slots;
+
 ghost use Rattle.std.specs.Prelude.{ℕ, ℤ, Bool, List, true, ◌≡◌, ◌==◌, ◌&&◌, ◌<ℤ◌};
 ghost use Rattle.std.specs.List.{AllPairs, list_any, count_by, sum_by};
 ghost use Rattle.std.specs.List.Sorted.{IsSortedBy, IsStrictlyIncreasing};
@@ -22,6 +24,11 @@ ghost use Rattle.views.specs.Pairs.{couple, compare, pairs};
 ghost use Rattle.views.specs.Rows.{due_to, has_passed, rows_of};
 ghost use Rattle.views.specs.Message.{after, Follows};
 ghost use Rattle.views.specs.IsView.{IsView, first_view};
+
+pub use slots::{
+    changes_leave_earlier_slices, holders_hold_the_queries_of_views, live_queries_own_their_slots,
+    windows_go_by_slices,
+};
 
 /// The windows that hold some of the records are numbered by rising number, each once: window k is among them just where
 /// one of the records lies in it.

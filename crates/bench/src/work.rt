@@ -1,0 +1,48 @@
+/// What may be measured.
+#[derive(Clone, Copy)]
+pub(crate) enum Name {
+    /// Which slots hold a record, by `Columns`.
+    Select,
+    /// The same, by a test of each slot's bounds.
+    SelectPlain,
+    /// A slot gets bounds in place of those that it has, one slot after another.
+    Set,
+    /// Which slots want a record, by a `Selector` that is advanced to each record's time.
+    Tag,
+}
+
+/// A work and its size.
+#[derive(Clone, Copy)]
+pub(crate) struct Work {
+    pub(crate) name: Name,
+    /// How many slots have bounds, at most 512.
+    pub(crate) slots: u16,
+    /// How many records there are.
+    pub(crate) records: u64,
+}
+
+// The work of this name.
+fn name_of(word: &str) -> Option<Name> {
+    match word {
+        "select" => Some(Name::Select),
+        "select-plain" => Some(Name::SelectPlain),
+        "set" => Some(Name::Set),
+        "tag" => Some(Name::Tag),
+        _ => None,
+    }
+}
+
+impl Work {
+    /// The work that three words name, with 1 to 512 slots.
+    pub(crate) fn of(name: &str, slots: &str, records: &str) -> Option<Work> {
+        let slots: u16 = slots.parse().ok()?;
+        if slots == 0 || slots > 512 {
+            return None;
+        }
+        Some(Work {
+            name: name_of(name)?,
+            slots,
+            records: records.parse().ok()?,
+        })
+    }
+}

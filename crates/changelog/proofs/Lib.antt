@@ -1,0 +1,13 @@
+pub mod SpanLaws
+pub mod NumberLaws
+pub mod OwnerLaws
+pub mod TableLaws
+pub mod EdgeLaws
+pub mod EndLaws
+pub mod ReachLaws
+pub mod KeepLaws
+pub mod EndKeepLaws
+pub mod HolderLaws
+pub mod StartLaws
+pub mod SlotLaws
+pub mod BySlotLaws
