@@ -273,6 +273,13 @@ impl Epochs {
         self.last
     }
 
+    /// The first epoch that may still be asked for.
+    pub fn first(&self) -> u64
+        ensures { result ≡ last_of self.now - held_of self.now }
+    {
+        self.last.saturating_sub(self.times.len() as u64)
+    }
+
     /// Adds a change. The one refusal is `NoMemory`, after which the changes are as they were.
     pub fn append(&mut self, c: &Change) -> Result<(), NoMemory>
         requires slot { slot_of c.now < 512 }

@@ -140,7 +140,9 @@ mod tests {
     #[test]
     fn later_epochs_stay(rt: HostRuntime) -> Result<(), Fail> {
         let mut epochs = row(rt.alloc())?;
+        assert_eq!(rt; epochs.first(), 0);
         epochs.trim(2);
+        assert_eq!(rt; epochs.first(), 2);
         assert_eq!(rt; epochs.last(), 3);
         assert_eq!(rt; epochs.epoch_at(11), 3);
         assert_eq!(rt; owner_number(&epochs, 2), 0);

@@ -1,0 +1,4 @@
+pub mod SetLaws
+pub mod BlockLaws
+pub mod KeepLaws
+pub mod SlotLaws

@@ -1,0 +1,4 @@
+pub mod Sets
+pub mod Blocks
+pub mod TouchedFor
+pub mod Worked

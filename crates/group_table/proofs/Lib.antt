@@ -1,0 +1,9 @@
+pub mod CellLaws
+pub mod SumLaws
+pub mod ListLaws
+pub mod HeldLaws
+pub mod TotalLaws
+pub mod PageLaws
+pub mod RowLaws
+pub mod MergeLaws
+pub mod TableLaws
