@@ -15,7 +15,8 @@ import sys
 TOP = os.path.dirname(os.path.dirname(os.path.abspath(__file__)))
 PROGRAM = os.path.join(TOP, "crates", "bench", "out", "bench")
 
-# A group: the row that the others have in common, then the rows; of each its work, its size, and how many records.
+# A group: the row that the others have in common, then the rows; of each its work, its slots, and how many records (in the
+# group `window`, how many windows of a thousand records).
 GROUPS = {
     "select": [
         ("select-plain", 1, 10_000_000),
@@ -28,6 +29,24 @@ GROUPS = {
         ("select-plain", 1, 10_000_000),
         ("set", 64, 1_000_000),
         ("set", 512, 200_000),
+    ],
+    "sum": [
+        ("select-plain", 1, 10_000_000),
+        ("sum", 1, 2_000_000),
+        ("sum-plain", 1, 2_000_000),
+        ("sum", 64, 200_000),
+        ("sum-plain", 64, 200_000),
+        ("sum", 512, 40_000),
+        ("sum-plain", 512, 40_000),
+    ],
+    "window": [
+        ("select-plain", 1, 10_000_000),
+        ("window", 1, 20_000),
+        ("window-plain", 1, 20_000),
+        ("window", 64, 20_000),
+        ("window-plain", 64, 20_000),
+        ("window", 512, 20_000),
+        ("window-plain", 512, 20_000),
     ],
     "tag": [
         ("select-plain", 1, 10_000_000),
@@ -65,7 +84,7 @@ def main():
         print(f"{name}: making and mixing a record takes {costs[0]:.1f} ns")
         for work, cost in list(zip(group, costs))[1:]:
             own = cost - costs[0]
-            print(f"  {work[0]:13} {work[1]:4} slots  {own:8.1f} ns a record, {1000 / cost:6.2f} M records a second in all")
+            print(f"  {work[0]:13} {work[1]:4} slots  {own:10.1f} ns each, {1000 / cost:7.3f} M a second in all")
 
 
 if __name__ == "__main__":

@@ -1,12 +1,18 @@
 ghost use Rattle.std.specs.Prelude.{◌<◌, ◌^◌};
 
-use as_base::{Bounds, Given, StreamId};
+use as_base::{Bounds, Cell, Given, StreamId};
 
 /// v1 is below this.
 const RANGE: u64 = 1 << 31;
 
 /// How much of the range of v1 the bounds of a slot hold.
 const WIDTH: u64 = RANGE / 64;
+
+/// How many ticks a window has; a record comes at each tick.
+pub(crate) const WINDOW: u64 = 1000;
+
+/// How many keys there are.
+const KEYS: u64 = 1000;
 
 /// Numbers that look drawn, the same ones each time.
 #[derive(Drop)]
@@ -44,9 +50,9 @@ pub(crate) fn bounds_of(slot: u16, slots: u16) -> Bounds {
     }
 }
 
-/// A record of stream a at a time, with the next five numbers.
+/// A record of stream a at a time, with a key and values of the next five numbers.
 pub(crate) fn record_at(time: u64, numbers: &mut Numbers) -> Given {
-    let key = numbers.next() as i64;
+    let key = (numbers.next() % KEYS) as i64;
     let v1 = numbers.next() as i64;
     let v2 = numbers.next() as i64;
     let v3 = numbers.next() as i64;
@@ -64,6 +70,18 @@ pub(crate) fn mixed(sum: u64, words: &[u64; 8]) -> u64 {
     let mut mixed = sum;
     for word in words {
         mixed = mixed.rotate_left(5) ^ *word;
+    }
+    mixed
+}
+
+/// The checksum with some cells more.
+pub(crate) fn mixed_cells(sum: u64, cells: &[Cell]) -> u64 {
+    let mut mixed = sum;
+    for cell in cells {
+        let group = cell.group.cast_unsigned();
+        let total = u64::try_from(cell.sum).unwrap_or(0);
+        let parts = cell.count.wrapping_mul(31) ^ group ^ total.wrapping_mul(7);
+        mixed = mixed.rotate_left(5) ^ parts;
     }
     mixed
 }

@@ -3,7 +3,9 @@
 #![tactic(auto)]
 
 mod made;
+mod queries;
 mod select;
+mod sums;
 mod tag;
 mod work;
 
@@ -20,6 +22,10 @@ fn checksum(work: &Work, alloc: Global) -> Result<u64, NoMemory> {
         Name::Select => select::by_columns(work, alloc),
         Name::SelectPlain => select::by_tests(work, alloc),
         Name::Set => select::by_sets(work, alloc),
+        Name::Sum => sums::by_aggs(work, alloc),
+        Name::SumPlain => sums::by_maps(work, alloc),
+        Name::Window => sums::windows_by_aggs(work, alloc),
+        Name::WindowPlain => sums::windows_by_folds(work, alloc),
         Name::Tag => tag::by_selector(work, alloc),
     }
 }

@@ -7,6 +7,14 @@ pub(crate) enum Name {
     SelectPlain,
     /// A slot gets bounds in place of those that it has, one slot after another.
     Set,
+    /// Sums by key in each slot, by `Aggs`.
+    Sum,
+    /// The same, by a map for each slot.
+    SumPlain,
+    /// The cells of one slot in a window of four slices, by `Aggs`.
+    Window,
+    /// The same, by a fold over the records of the window.
+    WindowPlain,
     /// Which slots want a record, by a `Selector` that is advanced to each record's time.
     Tag,
 }
@@ -27,6 +35,10 @@ fn name_of(word: &str) -> Option<Name> {
         "select" => Some(Name::Select),
         "select-plain" => Some(Name::SelectPlain),
         "set" => Some(Name::Set),
+        "sum" => Some(Name::Sum),
+        "sum-plain" => Some(Name::SumPlain),
+        "window" => Some(Name::Window),
+        "window-plain" => Some(Name::WindowPlain),
         "tag" => Some(Name::Tag),
         _ => None,
     }
