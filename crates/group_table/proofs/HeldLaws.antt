@@ -9,7 +9,7 @@ use Rattle.std.proofs.lemmas.List.Quantifiers.{position-Some}
 use Rattle.std.proofs.lemmas.Option.{none-some}
 use Rattle.as_base.specs.declared.fragment.Cell.{Cell}
 use Rattle.group_table.specs.declared.small.Entry.{Entry}
-use Rattle.group_table.specs.Cells.{plus, add_in, sums, count_at, times, IsSound}
+use Rattle.group_table.specs.Cells.{plus, add_in, sums, count_at, times, IsSound, AreCells}
 use Rattle.group_table.specs.Held.{is_of, is_kept, held, put, put_at, none, IsEntry, AreEntries}
 use Rattle.group_table.proofs.CellLaws.{add_plus, fold_last}
 use Rattle.group_table.proofs.SumLaws.{eq-from, eq-to, count-added, count-sums}
@@ -346,3 +346,23 @@ few-some slot c es i e few =
     let at = position-Some (is_of slot c.group) es i none (sym e) in
     let k = count-found slot c.group es i at.0 at.1 in
     omega (arith, k, few)
+
+-- what holds of each entry's cell holds of the cells of a slot
+all-held : (P : Cell → Type 0) (es : List Entry) (s : ℕ) → AllByRecursion (λ (e : Entry). P e.cell) es → AllByRecursion P (held es s)
+all-held P [] s h = tt
+all-held P (e ∷ es) s h = go (e.slot == s) (all-held P es s h.1)
+  where
+    go : (t : Bool) → AllByRecursion P (held es s) → AllByRecursion P (cond t (e.cell ∷ held es s) (held es s))
+    go true k = (h.0, k)
+    go false k = k
+
+each-cell : (P : Cell → Type 0) (es : List Entry) → ((e : Entry) → IsEntry e → P e.cell) → AllByRecursion IsEntry es → AllByRecursion (λ (e : Entry). P e.cell) es
+each-cell P [] f h = tt
+each-cell P (e ∷ es) f h = (f e h.0, each-cell P es f h.1)
+
+pub entries-cells : (es : List Entry) (s : ℕ) → AreEntries es → AreCells (held es s)
+entries-cells es s h = record {
+  once = h.once s;
+  sound = all-held IsSound es s (each-cell IsSound es (λ e k. k.sound) h.each);
+  some = all-held (λ (c : Cell). 0 < c.count) es s (each-cell (λ (c : Cell). 0 < c.count) es (λ e k. k.some) h.each);
+}

@@ -3,7 +3,9 @@ pub mod SumLaws
 pub mod ListLaws
 pub mod HeldLaws
 pub mod TotalLaws
-pub mod PageLaws
-pub mod RowLaws
+pub mod GridLaws
+pub mod EachLaws
+pub mod PartLaws
+pub mod UpLaws
 pub mod MergeLaws
 pub mod TableLaws

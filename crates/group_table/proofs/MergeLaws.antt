@@ -1,21 +1,18 @@
 -- Going over cells one by one, and adding them.
-use Rattle.std.proofs.Common.{◌≡◌, inl, inr, ℕ, ℤ, zero, suc, ◌+◌, ◌≤◌, ◌<◌, ◌^◌, ◌==◌, Bool, cond, true, false, List, [], ◌∷◌, ◌++◌, length, get_or, take, refl, sym, ap, ◌∙◌, append-nil, arith}
+use Rattle.std.proofs.Common.{◌≡◌, ℕ, ℤ, zero, suc, ◌+◌, ◌≤◌, ◌<◌, ◌^◌, ◌==◌, Bool, cond, true, false, List, [], ◌∷◌, ◌++◌, length, get_or, take, refl, sym, ap, ◌∙◌, append-nil, arith}
 use Rattle.std.specs.List.{fold}
 use Rattle.std.specs.Ordering.{int_eq}
-use Rattle.std.proofs.lemmas.Bool.{cases_eq, eq-eqb, ne_eqb}
+use Rattle.std.proofs.lemmas.Bool.{eq-eqb, ne_eqb}
 use Rattle.std.proofs.lemmas.List.{take_more, get_or_default}
 use Rattle.std.proofs.lemmas.List.Sums.{fold-append}
 use Rattle.as_base.specs.declared.fragment.Cell.{Cell}
-use Rattle.group_table.specs.declared.row.Row.{Row}
 use Rattle.group_table.specs.declared.small.Entry.{Entry}
 use Rattle.group_table.specs.Cells.{add_in, sums, count_at}
 use Rattle.group_table.specs.Held.{held, none, AreEntries}
-use Rattle.group_table.specs.Rows.{shown, place_of, row_cells, cells_of}
 use Rattle.group_table.specs.Steps.{added, merged}
 use Rattle.group_table.proofs.CellLaws.{merge}
 use Rattle.group_table.proofs.SumLaws.{count-added, count-folded, count-sums, eq-to}
 use Rattle.group_table.proofs.HeldLaws.{held-of, held-other, eq-self, eq-turn}
-use Rattle.group_table.proofs.RowLaws.{cells-append, count-append, shown-some, shown-none}
 
 -- ---- entries
 
@@ -61,31 +58,7 @@ count-part (x ∷ es) (suc i) e s g low is p q = go (x.slot == s) refl (count-pa
     go true r h = let a = ap (λ l. count_at l g) (held-of x (take i es) s r) in let b = ap (λ l. count_at l g) (held-of x es s r) in omega (arith, a, b, h)
     go false r h = let a = ap (λ l. count_at l g) (held-other x (take i es) s r) in let b = ap (λ l. count_at l g) (held-other x es s r) in omega (arith, a, b, h)
 
--- ---- rows
-
-pub cells-next : (rows : List Row) (i : ℕ) (row : Row) (s : ℕ) → i < length rows → row ≡ get_or rows i row → cells_of (take (i + 1) rows) s ≡ cells_of (take i rows) s ++ row_cells row s
-cells-next rows i row s low is =
-    ap (λ l. cells_of l s) (take_more rows i row low ∙ ap (λ x. take i rows ++ x ∷ []) (sym is)) ∙ cells-append (take i rows) (row ∷ []) s ∙ ap (λ l. cells_of (take i rows) s ++ l) (append-nil (row_cells row s))
-
-pub count-rows : (rows : List Row) (i : ℕ) (row : Row) (s : ℕ) (g : ℤ) → i < length rows → row ≡ get_or rows i row → count_at (cells_of (take i rows) s) g + count_at (row_cells row s) g ≤ count_at (cells_of rows s) g
-count-rows [] i row s g low is = absurd (omega (arith, low))
-count-rows (x ∷ rows) zero row s g low is =
-    let a = count-append (row_cells x s) (cells_of rows s) g in let b = ap (λ (r : Row). count_at (row_cells r s) g) is in omega (arith, a, b)
-count-rows (x ∷ rows) (suc i) row s g low is =
-    let a = count-append (row_cells x s) (cells_of rows s) g in
-    let b = count-append (row_cells x s) (cells_of (take i rows) s) g in
-    let h = count-rows rows i row s g (omega (arith, low)) is in
-    omega (arith, a, b, h)
-
 -- ---- merging
-
--- one cell more is merged
-pub merged-more : (start now next : ℕ → List Cell) (slot s : ℕ) (xs : List Cell) (c : Cell) → now s ≡ merged start slot xs s → next s ≡ added now slot c s → next s ≡ merged start slot (xs ++ c ∷ []) s
-merged-more start now next slot s xs c h k = k ∙ go (s == slot) h
-  where
-    go : (t : Bool) → now s ≡ cond t (fold add_in (start s) xs) (start s) → cond t (add_in (now s) c) (now s) ≡ cond t (fold add_in (start s) (xs ++ c ∷ [])) (start s)
-    go true e = ap (λ l. add_in l c) e ∙ sym (fold-append add_in (start s) xs (c ∷ []))
-    go false e = e
 
 -- no group comes to too many records
 pub merged-few : (start now : ℕ → List Cell) (slot : ℕ) (xs : List Cell) (c : Cell) (most : ℕ) → now slot ≡ merged start slot xs slot → (slot == slot) ≡ true → count_at xs c.group + c.count ≤ most
@@ -119,32 +92,6 @@ entry-few es i l h low is =
     let k = count-sums e.cell.group (held (take i es) e.slot) in
     omega (arith, a, b, d, k)
 
-pub row-here : (rows : List Row) (i s : ℕ) (d : Row) (c : Cell) → i < length rows → c ≡ place_of (get_or rows i d).pages.items s → (c.count ≡ 0 → ⊥) → cells_of (take (i + 1) rows) s ≡ cells_of (take i rows) s ++ c ∷ []
-row-here rows i s d c low is some =
-    cells-next rows i (get_or rows i d) s low (own-at rows i d low)
-    ∙ ap (λ l. cells_of (take i rows) s ++ l) (ap shown (sym is) ∙ shown-some c (omega (arith, some)))
-
-pub row-passed : (rows : List Row) (i s : ℕ) (d : Row) (c : Cell) → i < length rows → c ≡ place_of (get_or rows i d).pages.items s → c.count ≡ 0 → cells_of (take (i + 1) rows) s ≡ cells_of (take i rows) s
-row-passed rows i s d c low is none =
-    cells-next rows i (get_or rows i d) s low (own-at rows i d low)
-    ∙ ap (λ l. cells_of (take i rows) s ++ l) (ap shown (sym is) ∙ shown-none c none) ∙ append-nil (cells_of (take i rows) s)
-
-own-count : (c : Cell) → c.count ≤ count_at (shown c) c.group
-own-count c = elim (cases_eq c.count 0) [
-  | inl e ↦ omega (arith, e)
-  | inr n ↦
-      let a = ap (λ l. count_at l c.group) (shown-some c (omega (arith, n))) in
-      let b = ap (λ t. cond {A = ℕ} t c.count 0) (eq-to c.group c.group refl) in
-      omega (arith, a, b)
-]
-
-pub row-part : (rows : List Row) (i s : ℕ) (d : Row) (c : Cell) → i < length rows → c ≡ place_of (get_or rows i d).pages.items s → count_at (cells_of (take i rows) s) c.group + c.count ≤ count_at (cells_of rows s) c.group
-row-part rows i s d c low is =
-    let a = count-rows rows i (get_or rows i d) s c.group low (own-at rows i d low) in
-    let b = own-count c in
-    let k = ap (λ x. count_at (shown x) c.group) is in
-    omega (arith, a, b, k)
-
 -- no group comes to too many records, where the cells of two slots together do not
 pub merging-few : (start now : ℕ → List Cell) (slot : ℕ) (xs all : List Cell) (c : Cell) → now slot ≡ merged start slot xs slot → count_at xs c.group + c.count ≤ count_at all c.group
     → count_at (start slot) c.group + count_at all c.group ≤ 2 ^ 62 → count_at (now slot) c.group + c.count ≤ 2 ^ 62
@@ -165,3 +112,9 @@ count-more start now slot s c g h = go (s == slot) h
         part true = omega arith
         part false = omega arith
     go false e = let a = ap (λ l. count_at l g) e in omega (arith, a)
+
+-- what the cells before one and its own count is part of what all count
+pub prefix-part : (cs : List Cell) (i : ℕ) (d : Cell) → i < length cs → count_at (take i cs) (get_or cs i d).group + (get_or cs i d).count ≤ count_at cs (get_or cs i d).group
+prefix-part [] i d low = absurd (omega (arith, low))
+prefix-part (c ∷ cs) zero d low = let a = ap (λ t. cond {A = ℕ} t c.count 0) (eq-to c.group c.group refl) in omega (arith, a)
+prefix-part (c ∷ cs) (suc i) d low = let h = prefix-part cs i d (omega (arith, low)) in omega (arith, h)

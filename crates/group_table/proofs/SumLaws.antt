@@ -9,8 +9,7 @@ use Rattle.std.proofs.lemmas.List.{set-get_or}
 use Rattle.std.proofs.lemmas.List.Edits.{swap_is}
 use Rattle.std.proofs.lemmas.List.Sorted.{IsPermutation-keeps, length_permutation}
 use Rattle.as_base.specs.declared.fragment.Cell.{Cell}
-use Rattle.group_table.specs.Pages.{blank}
-use Rattle.group_table.specs.Cells.{add_in, sums, count_at, times, IsRising}
+use Rattle.group_table.specs.Cells.{blank, add_in, sums, count_at, times, IsRising, NeverFalls}
 use Rattle.group_table.proofs.CellLaws.{cases_group, lt_through, past, here, one, add_free, fold_last}
 
 pub eq-from : (a b : ℤ) → int_eq a b ≡ true → a ≡ b
@@ -46,7 +45,7 @@ count-sums g cs = let a = count-folded g cs [] in omega (arith, a)
 
 -- ---- by rising group
 
-abbrev IsAbove : ℤ → List Cell → Type 0
+abbrev pub IsAbove : ℤ → List Cell → Type 0
 IsAbove g cs = AllByRecursion (λ (later : Cell). int_lt g later.group ≡ true) cs
 
 above-added : (x : ℤ) (l : List Cell) (c : Cell) → IsAbove x l → int_lt x c.group ≡ true → IsAbove x (add_in l c)
@@ -57,7 +56,7 @@ above-added x (d ∷ ds) c a e = elim (cases_group d.group c.group) [
   | inr (inr f) ↦ subst (IsAbove x) (sym (one d ds c f)) a
 ]
 
-above-through : (x y : ℤ) (l : List Cell) → int_lt x y ≡ true → IsAbove y l → IsAbove x l
+pub above-through : (x y : ℤ) (l : List Cell) → int_lt x y ≡ true → IsAbove y l → IsAbove x l
 above-through x y [] e a = tt
 above-through x y (d ∷ ds) e a = (lt_through x y d.group e a.0, above-through x y ds e a.1)
 
@@ -148,10 +147,6 @@ length-most (d ∷ ds) c = elim (cases_group d.group c.group) [
 length-sums-most : (cs : List Cell) → length (sums cs) ≤ length cs
 length-sums-most [] = omega arith
 length-sums-most (c ∷ cs) = let a = ap length (fold_last [] c cs) in let b = length-most (sums cs) c in let k = length-sums-most cs in omega (arith, a, b, k)
-
--- no group is below the one before it
-abbrev pub NeverFalls : List Cell → Type 0
-NeverFalls cs = (k j : ℕ) (d : Cell) → j ≡ k + 1 → j < length cs → int_lt (get_or cs j d).group (get_or cs k d).group ≡ false
 
 falls-rest : (c : Cell) (cs : List Cell) → NeverFalls (c ∷ cs) → NeverFalls cs
 falls-rest c cs h = λ k j d e l. h (suc k) (suc j) d (omega (arith, e)) (omega (arith, l))

@@ -1,8 +1,12 @@
 -- Cells of groups: one more added to some, and all of some added up.
-use Rattle.std.specs.Prelude.{◌≡◌, ℕ, ℤ, pos, neg_ℤ, ◌+ℤ◌, ◌≤ℤ◌, ◌+◌, ◌*◌, ◌^◌, int_lt, true, if◌then◌else◌, List, [], ◌∷◌, fold}
+use Rattle.std.specs.Prelude.{◌≡◌, ℕ, ℤ, pos, neg_ℤ, ◌+ℤ◌, ◌≤ℤ◌, ◌≤◌, ◌<◌, ◌+◌, ◌*◌, ◌^◌, int_lt, true, false, if◌then◌else◌, length, slice_index_or, List, [], ◌∷◌, fold}
 use Rattle.std.specs.Ordering.{int_eq}
 use Rattle.std.specs.List.{AllByRecursion}
 use Rattle.as_base.specs.declared.fragment.Cell.{Cell}
+
+-- a cell of no records
+abbrev pub blank : Cell
+blank = record { group = pos 0; sum = pos 0; count = 0 }
 
 -- two cells of one group as one: the sums and the counts are added
 abbrev pub plus : Cell → Cell → Cell
@@ -27,6 +31,10 @@ abbrev pub IsRising : List Cell → Type 0
 IsRising [] = Unit {0}
 IsRising (c ∷ cs) = AllByRecursion (λ (later : Cell). int_lt c.group later.group ≡ true) cs × IsRising cs
 
+-- no group is below the one before it
+abbrev pub NeverFalls : List Cell → Type 0
+NeverFalls cs = (k j : ℕ) (d : Cell) → j ≡ k + 1 → j < length cs → int_lt (slice_index_or cs j d).group (slice_index_or cs k d).group ≡ false
+
 -- how many of the cells are of the group
 abbrev pub times : ℤ → List Cell → ℕ
 times group [] = 0
@@ -36,3 +44,9 @@ times group (c ∷ cs) = (if int_eq c.group group then 1 else 0) + times group c
 pub record IsSound (c : Cell) : Type 0 where
   pub above : neg_ℤ (pos (c.count * 2 ^ 63)) ≤ℤ c.sum
   pub below : c.sum ≤ℤ pos (c.count * 2 ^ 63)
+
+-- cells of some records each, no two of one group
+pub record AreCells (cs : List Cell) : Type 0 where
+  pub once : (group : ℤ) → times group cs ≤ 1
+  pub sound : AllByRecursion IsSound cs
+  pub some : AllByRecursion (λ (c : Cell). 0 < c.count) cs

@@ -4,8 +4,7 @@ use Rattle.std.specs.Ordering.{int_eq}
 use Rattle.std.specs.List.{AllByRecursion}
 use Rattle.as_base.specs.declared.fragment.Cell.{Cell}
 use Rattle.group_table.specs.declared.small.Entry.{Entry}
-use Rattle.group_table.specs.Pages.{blank}
-use Rattle.group_table.specs.Cells.{plus, count_at, times, IsSound}
+use Rattle.group_table.specs.Cells.{blank, plus, count_at, times, IsSound}
 
 -- the entry is of this slot and group
 abbrev pub is_of : ℕ → ℤ → Entry → Bool

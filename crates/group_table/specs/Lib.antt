@@ -1,7 +1,6 @@
 pub mod Cells
 pub mod Held
-pub mod Pages
-pub mod Rows
+pub mod Grids
 pub mod Steps
 pub mod Totals
 pub mod Tables

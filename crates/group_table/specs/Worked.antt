@@ -1,7 +1,9 @@
 -- A worked row, evaluated on the definitions alone.
-use Rattle.std.specs.Prelude.{◌≡◌, ℤ, ℕ, pos, [], ◌∷◌, refl}
+use Rattle.std.specs.Prelude.{◌≡◌, ℤ, ℕ, pos, true, false, List, [], ◌∷◌, refl}
 use Rattle.as_base.specs.declared.fragment.Cell.{Cell}
-use Rattle.group_table.specs.Cells.{sums, count_at}
+use Rattle.group_table.specs.Cells.{blank, sums, count_at}
+use Rattle.group_table.specs.Grids.{all_shown, with_place}
+use Rattle.group_table.specs.Steps.{added_each}
 
 abbrev cell : ℤ → ℤ → ℕ → Cell
 cell group sum count = record { group = group; sum = sum; count = count }
@@ -20,3 +22,23 @@ counted = refl
 
 pub absent : count_at (cell (pos 2) (pos 4) 2 ∷ cell (pos 5) (pos 1) 1 ∷ []) (pos 3) ≡ 0
 absent = refl
+
+-- a record of group 5 and value 3 in the slots 1 and 2 of three, which have no cells yet
+abbrev slot_of_three : ℕ → List Cell
+slot_of_three = added_each (λ s. []) (false ∷ true ∷ true ∷ []) (cell (pos 5) (pos 3) 1)
+
+pub in_two : slot_of_three 2 ≡ cell (pos 5) (pos 3) 1 ∷ []
+in_two = refl
+
+pub not_in_one : slot_of_three 0 ≡ []
+not_in_one = refl
+
+pub not_beyond : slot_of_three 3 ≡ []
+not_beyond = refl
+
+-- a cell in row 2 of a column without places: those before it are empty
+pub placed : with_place 2 (cell (pos 5) (pos 3) 1) [] ≡ blank ∷ blank ∷ cell (pos 5) (pos 3) 1 ∷ []
+placed = refl
+
+pub shows_one : all_shown (with_place 2 (cell (pos 5) (pos 3) 1) []) ≡ cell (pos 5) (pos 3) 1 ∷ []
+shows_one = refl

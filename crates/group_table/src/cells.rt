@@ -1,5 +1,5 @@
 ghost use Rattle.std.specs.Prelude.{◌≡◌, ◌≤◌, ◌+◌, ◌^◌};
-ghost use Rattle.group_table.specs.Cells.{plus, IsSound};
+ghost use Rattle.group_table.specs.Cells.{blank, plus, IsSound};
 
 use as_base::Cell;
 
@@ -14,5 +14,16 @@ pub fn plus(cell: Cell, more: Cell) -> Cell
         group: cell.group,
         sum: cell.sum + more.sum,
         count: cell.count + more.count,
+    }
+}
+
+/// A cell of no records.
+pub fn blank() -> Cell
+    ensures { result ≡ blank }
+{
+    Cell {
+        group: 0,
+        sum: 0,
+        count: 0,
     }
 }

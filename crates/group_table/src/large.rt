@@ -1,64 +1,63 @@
-ghost use Rattle.std.specs.Prelude.{◌≡◌, ℕ, ℤ, ◌<◌, ◌≤◌, ◌+◌, ◌^◌, ◌==◌, ◌++◌, [], ◌∷◌, None, Some, true, false, if◌then◌else◌, length, map, slice_get, slice_index_or, IfOk, IfSome, IfErr, OnOk, OnErr};
+ghost use Rattle.std.specs.Prelude.{◌≡◌, ℕ, ℤ, List, ◌<◌, ◌≤◌, ◌+◌, ◌^◌, ◌==◌, ◌++◌, [], ◌∷◌, None, Some, true, false, if◌then◌else◌, length, replicate, slice_get, slice_set, slice_index_or, IfOk, IfSome, IfErr, OnOk, OnErr};
 ghost use Rattle.std.specs.List.{AllByRecursion};
 ghost use Rattle.as_base.specs.declared.fragment.Cell.{Cell};
-ghost use Rattle.group_table.specs.Cells.{sums, count_at, IsSound};
-ghost use Rattle.group_table.specs.Rows.{row_cells, cells_of, groups_of, IsRow, AreApart, AreRows};
-ghost use Rattle.group_table.specs.Steps.{added, dropped};
+ghost use Rattle.group_table.specs.Cells.{blank, plus, sums, count_at, IsSound, AreCells};
+ghost use Rattle.group_table.specs.Grids.{Grid, all_shown, with_place, cells_of, AreOf, AreApart};
+ghost use Rattle.group_table.specs.Steps.{added, added_each, dropped, HaveSome};
 ghost use Rattle.group_table.specs.Totals.{total};
 
-use crate::row::Row;
+use crate::column::{Column, append_shown, count_shown};
 use as_base::{Cell, NoMemory};
 use indexmap::IndexSet;
 use queryset_lanes::QuerySet;
+use slot_walk::Slots;
 use std::alloc::Global;
 use std::marker::Model;
 
-/// Cells in rows, one for each group. Seen as the list of the rows.
+/// How many slots there are.
+const SLOTS: usize = 512;
+
+/// How many groups keep a table small: its columns have at most 4,096 places then.
+const FEW_GROUPS: usize = 8;
+
+/// Cells in columns, one for each slot, with a place for each group: a record goes to one row of them, and the cells of a
+/// slot stand side by side. Seen as the groups and the columns.
 #[derive(Drop)]
 pub struct Large {
-    alloc: Global,
-    // The groups of the rows, which tell the number of a group's row.
+    // The groups; the number of one in the set is that of its row.
     groups: IndexSet<i64>,
-    rows: Vec<Row>,
-    // The row used last: a record goes to all slots of its set with one group.
+    columns: Vec<Column>,
+    // The row used last.
     last: usize,
     // How many cells there are.
     count: usize,
+    // How many groups there were at most.
+    most_groups: usize,
 }
 
 impl Model for Large {
-    ghost use Rattle.std.specs.Prelude.{List};
-    ghost use Rattle.group_table.specs.declared.row.Row.{Row};
+    ghost use Rattle.group_table.specs.Grids.{Grid, IsLarge};
 
-    ghost Value = { List Row };
+    ghost Value = { Grid };
 
-    ghost use Rattle.group_table.specs.Rows.{IsLarge};
+    ghost view = { λ l. record { keys = l.groups.keys; columns = l.columns.items } };
 
-    ghost view = { λ l. l.rows.items };
-
-    ghost invariant = { λ l. IsLarge l.groups.keys l.rows.items l.count };
+    ghost invariant = { λ l. IsLarge l.groups.keys l.columns.items l.count };
 }
 
 impl Large {
-    /// No cell. Takes no memory.
-    pub fn new(alloc: Global) -> Large
-        ensures { result ≡ [] }
+    /// No cell. The one refusal is `NoMemory`.
+    pub fn new(alloc: Global) -> Result<Large, NoMemory>
+        ensures { IfOk result (λ large. (s : ℕ) → cells_of large s ≡ []) }
     {
-        Large {
-            alloc,
+        let columns = no_cells(alloc)?;
+        Ok(Large {
             groups: IndexSet::new(alloc),
-            rows: Vec::new(alloc),
+            columns,
             last: 0,
             count: 0,
-        }
-    }
-
-    /// The rows, in the order held.
-    pub fn rows(&self) -> &[Row]
-        ensures value { result.now ≡ self.now }
-        ensures rows { AreRows self.now }
-    {
-        self.rows.as_slice()
+            most_groups: 0,
+        })
     }
 
     /// How many cells there are, over all slots.
@@ -68,6 +67,17 @@ impl Large {
         self.count
     }
 
+    /// Puts the cells of a slot behind those of the list. The one refusal is `NoMemory`.
+    pub fn append(&self, slot: u16, cells: &mut Vec<Cell>) -> Result<(), NoMemory>
+        ensures ok { OnOk result (cells.new.items ≡ cells.old.items ++ cells_of self.now slot) }
+        ensures cells { AreCells (cells_of self.now slot) }
+    {
+        match self.columns.get(usize::from(slot)) {
+            Some(column) => append_shown(column.cells(), cells),
+            None => Ok(()),
+        }
+    }
+
     /// Adds the cell to that of its slot and group. The one refusal is `NoMemory`, after which the cells are as they were.
     pub fn add(&mut self, slot: u16, cell: Cell) -> Result<(), NoMemory>
         requires slot { slot < 512 }
@@ -75,41 +85,105 @@ impl Large {
         requires sound { IsSound cell }
         requires few { count_at (sums (cells_of self.old slot)) cell.group + cell.count ≤ 2 ^ 62 }
         ensures ok { OnOk result ((s : ℕ) → sums (cells_of self.new s) ≡ added (λ k. sums (cells_of self.old k)) slot cell s) }
-        ensures err { OnErr result ((s : ℕ) → cells_of self.new s ≡ cells_of self.old s) }
+        ensures err { OnErr result ((s : ℕ) → sums (cells_of self.new s) ≡ sums (cells_of self.old s)) }
     {
-        if self.count == usize::MAX {
-            return Err(NoMemory);
-        }
         let row = self.row_of(cell.group)?;
-        let fresh = add_to(&mut self.rows, row, slot, cell, self.alloc)?;
-        self.count += fresh as usize;
-        Ok(())
+        self.add_at(row, slot, cell)
+    }
+
+    /// Adds the cell to that of its group in each of these slots. The one refusal is `NoMemory`, after which some of the
+    /// slots have it.
+    pub fn add_each(&mut self, slots: &QuerySet, cell: Cell) -> Result<(), NoMemory>
+        requires some { 0 < cell.count }
+        requires sound { IsSound cell }
+        requires few { (slot : ℕ) → slice_index_or slots.now slot false ≡ true →
+            count_at (sums (cells_of self.old slot)) cell.group + cell.count ≤ 2 ^ 62 }
+        ensures ok { OnOk result ((s : ℕ) →
+            sums (cells_of self.new s) ≡ added_each (λ k. sums (cells_of self.old k)) slots.now cell s) }
+        ensures err { OnErr result (HaveSome (λ k. sums (cells_of self.old k)) (λ k. sums (cells_of self.new k)) slots.now cell) }
+    {
+        let row = self.row_of(cell.group)?;
+        self.add_in_row(row, slots, cell)
     }
 
     /// Takes the cells of these slots out. Takes no memory.
     pub fn drop_slots(&mut self, slots: &QuerySet)
         ensures { (s : ℕ) → sums (cells_of self.new s) ≡ dropped (λ k. sums (cells_of self.old k)) slots.now s }
     {
-        if self.count == 0 {
-            return;
+        let mut left = Slots::of(slots);
+        'slots: while let Some(slot) = left.next() {
+            self.drop_slot(slot);
         }
-        for slot in 0..512 {
-            if slots.test(slot) {
-                self.drop_slot(slot);
-            }
-        }
+    }
+
+    /// Takes all cells out, and keeps the memory. Takes no memory.
+    pub fn clear(&mut self)
+        ensures { (s : ℕ) → cells_of self.new s ≡ [] }
+    {
+        self.most_groups = self.groups_at_most();
+        clear_all(&mut self.columns);
+        self.groups.clear();
+        self.count = 0;
+    }
+
+    /// Whether there were never more than 8 groups, so that there is memory for at most 4,096 cells.
+    pub fn is_small(&self) -> bool {
+        self.groups_at_most() <= FEW_GROUPS
+    }
+
+    // How many groups there were at most.
+    fn groups_at_most(&self) -> usize {
+        self.most_groups.max(self.groups.len())
     }
 
     // The number of the group's row, which is made if there is none. `NoMemory` leaves the cells as they were, too.
     fn row_of(&mut self, group: i64) -> Result<usize, NoMemory>
-        ensures ok { IfOk result (λ row. slice_get (groups_of self.new) row ≡ Some group) }
-        ensures same { (s : ℕ) → cells_of self.new s ≡ cells_of self.old s }
+        ensures ok { IfOk result (λ row. slice_get self.new.keys row ≡ Some group) }
+        ensures same { self.new.columns ≡ self.old.columns }
     {
-        if is_row_of(&self.rows, self.last, group) {
+        if is_row_of(&self.groups, self.last, group) {
             return Ok(self.last);
         }
-        self.last = look_up(&mut self.groups, &mut self.rows, group, self.alloc)?;
-        Ok(self.last)
+        let row = look_up(&mut self.groups, group)?;
+        self.last = row;
+        Ok(row)
+    }
+
+    // Adds the cell to that in the row and slot.
+    fn add_at(&mut self, row: usize, slot: u16, cell: Cell) -> Result<(), NoMemory>
+        requires slot { slot < 512 }
+        requires some { 0 < cell.count }
+        requires sound { IsSound cell }
+        requires row { slice_get self.old.keys row ≡ Some cell.group }
+        requires few { count_at (sums (cells_of self.old slot)) cell.group + cell.count ≤ 2 ^ 62 }
+        ensures keys { self.new.keys ≡ self.old.keys }
+        ensures ok { OnOk result ((s : ℕ) → sums (cells_of self.new s) ≡ added (λ k. sums (cells_of self.old k)) slot cell s) }
+        ensures err { OnErr result (self.new ≡ self.old) }
+    {
+        if self.count == usize::MAX {
+            return Err(NoMemory);
+        }
+        let fresh = add_to(&mut self.columns, row, slot, cell)?;
+        self.count += fresh as usize;
+        Ok(())
+    }
+
+    // Adds the cell to those in the row and these slots.
+    fn add_in_row(&mut self, row: usize, slots: &QuerySet, cell: Cell) -> Result<(), NoMemory>
+        requires some { 0 < cell.count }
+        requires sound { IsSound cell }
+        requires row { slice_get self.old.keys row ≡ Some cell.group }
+        requires few { (slot : ℕ) → slice_index_or slots.now slot false ≡ true →
+            count_at (sums (cells_of self.old slot)) cell.group + cell.count ≤ 2 ^ 62 }
+        ensures ok { OnOk result ((s : ℕ) →
+            sums (cells_of self.new s) ≡ added_each (λ k. sums (cells_of self.old k)) slots.now cell s) }
+        ensures err { OnErr result (HaveSome (λ k. sums (cells_of self.old k)) (λ k. sums (cells_of self.new k)) slots.now cell) }
+    {
+        let mut left = Slots::of(slots);
+        'slots: while let Some(slot) = left.next() {
+            self.add_at(row, slot, cell)?;
+        }
+        Ok(())
     }
 
     // Takes the cells of a slot out.
@@ -117,120 +191,76 @@ impl Large {
         requires { slot < 512 }
         ensures { (s : ℕ) → cells_of self.new s ≡ (if s == slot then [] else cells_of self.old s) }
     {
-        self.count -= count_of(&self.rows, slot);
-        clear_slot(&mut self.rows, slot);
+        self.count -= clear_column(&mut self.columns, slot);
     }
 }
 
-// Whether there is a row of this number and it is the group's.
-fn is_row_of(rows: &[Row], row: usize, group: i64) -> bool
-    ensures { result ≡ true → slice_get (groups_of rows.now) row ≡ Some group }
+// 512 columns without places.
+fn no_cells(alloc: Global) -> Result<Vec<Column>, NoMemory>
+    ensures { IfOk result (λ columns. columns.items ≡ replicate 512 []) }
 {
-    match rows.get(row) {
-        Some(row) => row.group == group,
+    let mut columns = Vec::with_capacity(alloc, SLOTS)?;
+    for _ in 0..SLOTS {
+        columns.push(Column::new(alloc))?;
+    }
+    Ok(columns)
+}
+
+// Whether there is a row of this number and it is the group's.
+fn is_row_of(groups: &IndexSet<i64>, row: usize, group: i64) -> bool
+    ensures { result ≡ true → slice_get groups.now.keys row ≡ Some group }
+{
+    match groups.get_index(row) {
+        Some(key) => *key == group,
         None => false,
     }
 }
 
-// Puts a new row last.
-fn push_row(rows: &mut Vec<Row>, group: i64, alloc: Global) -> Result<(), NoMemory>
-    requires { AllByRecursion IsRow rows.old.items }
-    ensures groups { OnOk result (groups_of rows.new.items ≡ groups_of rows.old.items ++ group ∷ []) }
-    ensures rows { AllByRecursion IsRow rows.new.items }
-    ensures same { (s : ℕ) → cells_of rows.new.items s ≡ cells_of rows.old.items s }
-    ensures err { OnErr result (rows.new.items ≡ rows.old.items) }
-{
-    let row = Row::new(group, alloc)?;
-    rows.push(row)?;
-    Ok(())
-}
-
 // The number of the group's row, which is made if there is none.
-fn look_up(
-    groups: &mut IndexSet<i64>,
-    rows: &mut Vec<Row>,
-    group: i64,
-    alloc: Global,
-) -> Result<usize, NoMemory>
-    requires keys { groups.old.keys ≡ groups_of rows.old.items }
-    requires apart { AreApart (groups_of rows.old.items) }
-    requires rows { AllByRecursion IsRow rows.old.items }
-    ensures keys { groups.new.keys ≡ groups_of rows.new.items }
-    ensures apart { AreApart (groups_of rows.new.items) }
-    ensures rows { AllByRecursion IsRow rows.new.items }
-    ensures ok { IfOk result (λ row. slice_get (groups_of rows.new.items) row ≡ Some group) }
-    ensures same { (s : ℕ) → cells_of rows.new.items s ≡ cells_of rows.old.items s }
+fn look_up(groups: &mut IndexSet<i64>, group: i64) -> Result<usize, NoMemory>
+    requires { AreApart groups.old.keys }
+    ensures apart { AreApart groups.new.keys }
+    ensures more { (cs : List Cell) → AreOf groups.old.keys cs → AreOf groups.new.keys cs }
+    ensures ok { IfOk result (λ row. slice_get groups.new.keys row ≡ Some group) }
 {
-    let (row, fresh) = groups.insert_full(group)?;
-    if !fresh {
-        return Ok(row);
-    }
-    match push_row(rows, group, alloc) {
-        Ok(()) => Ok(row),
-        Err(error) => {
-            groups.pop();
-            Err(error)
-        }
-    }
+    let (row, _) = groups.insert_full(group)?;
+    Ok(row)
 }
 
-// Adds the cell to that of its slot in the group's row, and tells whether it is a new one.
-fn add_to(
-    rows: &mut [Row],
-    row: usize,
-    slot: u16,
-    cell: Cell,
-    alloc: Global,
-) -> Result<bool, NoMemory>
-    requires slot { slot < 512 }
-    requires some { 0 < cell.count }
+// Adds the cell to what stands in the row and slot, and tells whether that was empty.
+fn add_to(columns: &mut Vec<Column>, row: usize, slot: u16, cell: Cell) -> Result<bool, NoMemory>
+    requires slot { slot < length columns.old.items }
     requires sound { IsSound cell }
-    requires row { slice_get (groups_of rows.old) row ≡ Some cell.group }
-    requires rows { AllByRecursion IsRow rows.old }
-    requires few { count_at (cells_of rows.old slot) cell.group + cell.count ≤ 2 ^ 62 }
-    ensures groups { groups_of rows.new ≡ groups_of rows.old }
-    ensures rows { AllByRecursion IsRow rows.new }
-    ensures ok { OnOk result ((s : ℕ) → sums (cells_of rows.new s) ≡ added (λ k. sums (cells_of rows.old k)) slot cell s) }
-    ensures fresh { IfOk result (λ fresh. (s : ℕ) →
-        length (cells_of rows.new s) ≡ length (cells_of rows.old s) + (if s == slot then (if fresh then 1 else 0) else 0)) }
-    ensures err { OnErr result ((s : ℕ) → cells_of rows.new s ≡ cells_of rows.old s) }
+    requires held { IsSound (slice_index_or (slice_index_or columns.old.items slot []) row blank) }
+    requires few { cell.count + (slice_index_or (slice_index_or columns.old.items slot []) row blank).count ≤ 2 ^ 62 }
+    ensures ok { OnOk result (columns.new.items ≡ slice_set columns.old.items slot
+        (with_place row (plus cell (slice_index_or (slice_index_or columns.old.items slot []) row blank))
+        (slice_index_or columns.old.items slot []))) }
+    ensures fresh { IfOk result (λ fresh.
+        fresh ≡ ((slice_index_or (slice_index_or columns.old.items slot []) row blank).count == 0)) }
+    ensures err { OnErr result (columns.new.items ≡ columns.old.items) }
 {
-    let fresh = rows[row].add(slot, cell, alloc)?;
-    Ok(fresh)
+    columns[usize::from(slot)].add(row, cell)
 }
 
-// How many cells of a slot the row has, at most one.
-fn cells_in(row: &Row, slot: u16) -> usize
-    requires slot { slot < 512 }
-    requires row { IsRow row.now }
-    ensures most { result ≤ 1 }
-    ensures value { result ≡ length (row_cells row.now slot) }
+// Takes the places of a slot out, and tells how many cells they had.
+fn clear_column(columns: &mut Vec<Column>, slot: u16) -> usize
+    requires slot { slot < length columns.old.items }
+    ensures count { result ≡ length (all_shown (slice_index_or columns.old.items slot [])) }
+    ensures value { columns.new.items ≡ slice_set columns.old.items slot [] }
 {
-    (row.cell(slot).count != 0) as usize
-}
-
-// How many cells a slot has.
-fn count_of(rows: &[Row], slot: u16) -> usize
-    requires slot { slot < 512 }
-    requires rows { AllByRecursion IsRow rows.now }
-    ensures { result ≡ length (cells_of rows.now slot) }
-{
-    let mut count = 0;
-    for row in rows {
-        count += cells_in(row, slot);
-    }
+    let column = &mut columns[usize::from(slot)];
+    let count = count_shown(column.cells());
+    column.clear();
     count
 }
 
-// Takes the cells of a slot out.
-fn clear_slot(rows: &mut [Row], slot: u16)
-    requires slot { slot < 512 }
-    requires rows { AllByRecursion IsRow rows.old }
-    ensures groups { groups_of rows.new ≡ groups_of rows.old }
-    ensures rows { AllByRecursion IsRow rows.new }
-    ensures value { (s : ℕ) → cells_of rows.new s ≡ (if s == slot then [] else cells_of rows.old s) }
+// Takes the places of all slots out.
+fn clear_all(columns: &mut [Column])
+    ensures slots { length columns.new ≡ length columns.old }
+    ensures value { (s : ℕ) → slice_index_or columns.new s [] ≡ [] }
 {
-    for row in rows.iter_mut() {
-        row.clear(slot);
+    for column in columns.iter_mut() {
+        column.clear();
     }
 }

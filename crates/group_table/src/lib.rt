@@ -2,12 +2,13 @@
 #![tactic(auto)]
 
 mod cells;
+mod column;
 mod large;
-mod page;
-mod row;
 mod small;
+mod sums;
 mod table;
 
+pub use sums::add_up;
 pub use table::Table;
 
 #[cfg(test)]

@@ -1,13 +1,14 @@
-ghost use Rattle.std.specs.Prelude.{◌≡◌, ℕ, ◌<◌, ◌≤◌, ◌+◌, ◌^◌, ◌==◌, [], if◌then◌else◌, length, vec_len, nat_le, filter, position, slice_set, slice_index_or, OnOk, OnErr};
+ghost use Rattle.std.specs.Prelude.{◌≡◌, ℕ, ◌++◌, true, false, ◌<◌, ◌≤◌, ◌+◌, ◌^◌, ◌==◌, [], if◌then◌else◌, length, vec_len, nat_le, filter, position, slice_set, slice_index_or, OnOk, OnErr};
 ghost use Rattle.as_base.specs.declared.fragment.Cell.{Cell};
-ghost use Rattle.group_table.specs.Cells.{sums, count_at, IsSound};
+ghost use Rattle.group_table.specs.Cells.{sums, count_at, IsSound, AreCells};
 ghost use Rattle.group_table.specs.Held.{is_of, is_kept, held, put, put_at, none, AreEntries};
-ghost use Rattle.group_table.specs.Steps.{added, dropped};
+ghost use Rattle.group_table.specs.Steps.{added, added_each, dropped, HaveSome};
 ghost use Rattle.group_table.specs.Totals.{total};
 
 use crate::cells::plus;
 use as_base::{Cell, NoMemory};
 use queryset_lanes::QuerySet;
+use slot_walk::Slots;
 use std::alloc::Global;
 use std::marker::Model;
 
@@ -76,6 +77,38 @@ impl Small {
         Ok(())
     }
 
+    /// Adds the cell to that of its group in each of these slots. The one refusal is `NoMemory`, after which some of the
+    /// slots have it.
+    pub fn add_each(&mut self, slots: &QuerySet, cell: Cell) -> Result<(), NoMemory>
+        requires some { 0 < cell.count }
+        requires sound { IsSound cell }
+        requires few { (slot : ℕ) → slice_index_or slots.now slot false ≡ true →
+            count_at (sums (held self.old slot)) cell.group + cell.count ≤ 2 ^ 62 }
+        ensures ok { OnOk result ((s : ℕ) → sums (held self.new s) ≡ added_each (λ k. sums (held self.old k)) slots.now cell s) }
+        ensures err { OnErr result (HaveSome (λ k. sums (held self.old k)) (λ k. sums (held self.new k)) slots.now cell) }
+    {
+        let mut left = Slots::of(slots);
+        'slots: while let Some(slot) = left.next() {
+            self.add(slot, cell)?;
+        }
+        Ok(())
+    }
+
+    /// Puts the cells of a slot behind those of the list. The one refusal is `NoMemory`.
+    pub fn append(&self, slot: u16, cells: &mut Vec<Cell>) -> Result<(), NoMemory>
+        ensures ok { OnOk result (cells.new.items ≡ cells.old.items ++ held self.now slot) }
+        ensures cells { AreCells (held self.now slot) }
+    {
+        append_held(&self.entries, slot, cells)
+    }
+
+    /// Takes all cells out, and keeps the memory. Takes no memory.
+    pub fn clear(&mut self)
+        ensures { self.new ≡ [] }
+    {
+        self.entries.clear();
+    }
+
     /// Takes the cells of these slots out. Takes no memory.
     pub fn drop_slots(&mut self, slots: &QuerySet)
         ensures { (s : ℕ) → sums (held self.new s) ≡ dropped (λ k. sums (held self.old k)) slots.now s }
@@ -122,6 +155,18 @@ fn put(entries: &mut Vec<Entry>, slot: u16, cell: Cell) -> Result<(), NoMemory>
         return Ok(());
     }
     entries.push(Entry { slot, cell })?;
+    Ok(())
+}
+
+// Puts the cells of a slot behind those of the list.
+fn append_held(entries: &[Entry], slot: u16, cells: &mut Vec<Cell>) -> Result<(), NoMemory>
+    ensures { OnOk result (cells.new.items ≡ cells.old.items ++ held entries.now slot) }
+{
+    for entry in entries {
+        if entry.slot == slot {
+            cells.push(entry.cell)?;
+        }
+    }
     Ok(())
 }
 

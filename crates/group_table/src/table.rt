@@ -1,21 +1,20 @@
-ghost use Rattle.std.specs.Prelude.{◌≡◌, ℕ, ℤ, ◌<◌, ◌≤◌, ◌+◌, ◌^◌, ◌==◌, [], false, if◌then◌else◌, IfOk, OnOk, OnErr};
+ghost use Rattle.std.specs.Prelude.{◌≡◌, ℕ, ℤ, ◌<◌, ◌≤◌, ◌+◌, ◌^◌, ◌==◌, ◌++◌, [], true, false, slice_index_or, if◌then◌else◌, IfOk, OnOk, OnErr};
 ghost use Rattle.std.specs.List.{AllByRecursion};
 ghost use Rattle.as_base.specs.declared.fragment.Cell.{Cell};
-ghost use Rattle.group_table.specs.Cells.{sums, count_at, times, IsSound};
+ghost use Rattle.group_table.specs.Cells.{sums, count_at, times, IsSound, AreCells};
 ghost use Rattle.group_table.specs.Held.{held, AreEntries};
-ghost use Rattle.group_table.specs.Rows.{cells_of, IsRow, AreRows};
-ghost use Rattle.group_table.specs.Steps.{added, merged, dropped};
+ghost use Rattle.group_table.specs.Grids.{cells_of};
+ghost use Rattle.group_table.specs.Steps.{added, added_each, merged, dropped, HaveSome, HaveFirst, AreAppended, IsPartlyMerged};
 ghost use Rattle.group_table.specs.Tables.{held_at, cells_at};
 ghost use Rattle.group_table.specs.Totals.{total};
 
 use crate::large::Large;
-use crate::row::Row;
 use crate::small::{Entry, Small};
 use as_base::{Cell, Cells, NoMemory};
 use queryset_lanes::QuerySet;
 use std::alloc::Global;
 
-/// How many cells are looked through; more of them stand in rows.
+/// How many cells are looked through; more of them stand in columns.
 const FEW: usize = 16;
 
 /// The two forms in which cells are held.
@@ -62,18 +61,45 @@ impl Table {
         self.add_cell(slot, cell)
     }
 
+    /// Adds a record with this value to the group's cell of each of these slots, each of less than 2^62 records. The one
+    /// refusal is `NoMemory`, after which some of the slots have it and the others are as they were.
+    #[tactic(auto, unfolding(crate::specs::Tables::cells_at))]
+    pub fn add_each(&mut self, slots: &QuerySet, group: i64, value: i64) -> Result<(), NoMemory>
+        requires few { (slot : ℕ) → slice_index_or slots.now slot false ≡ true → count_at (cells_at self.old slot) group < 2 ^ 62 }
+        ensures ok { OnOk result ((s : ℕ) →
+            cells_at self.new s ≡ added_each (cells_at self.old) slots.now (record { group = group; sum = value; count = 1 }) s) }
+        ensures err { OnErr result (
+            HaveSome (cells_at self.old) (cells_at self.new) slots.now (record { group = group; sum = value; count = 1 })) }
+    {
+        let cell = Cell {
+            group,
+            sum: i128::from(value),
+            count: 1,
+        };
+        self.add_cell_each(slots, cell)
+    }
+
     /// Adds the cells of a slot of another table to those of the same slot. No group may come to more than 2^62 records.
-    /// The one refusal is `NoMemory`: of this slot some cells are added then, and others not; other slots are as they were.
+    /// The one refusal is `NoMemory`: of this slot the cells of some groups are added then, and others not; other slots are
+    /// as they were.
+    #[tactic(auto, unfolding(crate::specs::Tables::cells_at))]
     pub fn merge_slot(&mut self, from: &Table, slot: u16) -> Result<(), NoMemory>
         requires slot { slot < 512 }
         requires few { (group : ℤ) → count_at (cells_at self.old slot) group + count_at (cells_at from.now slot) group ≤ 2 ^ 62 }
         ensures ok { OnOk result ((s : ℕ) → cells_at self.new s ≡ merged (cells_at self.old) slot (cells_at from.now slot) s) }
+        ensures err { OnErr result (IsPartlyMerged (cells_at self.old slot) (cells_at self.new slot) (cells_at from.now slot)) }
         ensures others { (s : ℕ) → (s == slot) ≡ false → cells_at self.new s ≡ cells_at self.old s }
     {
-        match &from.form {
-            Form::Small(small) => self.merge_entries(small.entries(), slot),
-            Form::Large(large) => self.merge_rows(large.rows(), slot),
-        }
+        let cells = gather(&from.form, slot, self.alloc)?;
+        self.add_cells(slot, cells.as_slice())
+    }
+
+    /// Puts the cells of a slot behind those of the list, in any order. The one refusal is `NoMemory`.
+    #[tactic(auto, unfolding(crate::specs::Tables::cells_at))]
+    pub fn append_slot(&self, slot: u16, cells: &mut Vec<Cell>) -> Result<(), NoMemory>
+        ensures { OnOk result (AreAppended cells.old.items cells.new.items (cells_at self.now slot)) }
+    {
+        append(&self.form, slot, cells)
     }
 
     /// The cells of a slot, by rising group. The one refusal is `NoMemory`.
@@ -105,6 +131,22 @@ impl Table {
         drop_slots(&mut self.form, slots);
     }
 
+    /// Takes all cells out, and keeps memory for later ones. Takes no memory.
+    #[tactic(auto, unfolding(crate::specs::Tables::cells_at))]
+    pub fn clear(&mut self)
+        ensures { (s : ℕ) → cells_at self.new s ≡ [] }
+    {
+        clear(&mut self.form);
+    }
+
+    /// Whether so little memory is held, for at most 4,096 cells, that a cleared table may be kept for later.
+    pub fn is_small(&self) -> bool {
+        match &self.form {
+            Form::Small(_) => true,
+            Form::Large(large) => large.is_small(),
+        }
+    }
+
     // Adds the cell to that of its slot and group.
     #[tactic(auto, unfolding(crate::specs::Tables::cells_at))]
     fn add_cell(&mut self, slot: u16, cell: Cell) -> Result<(), NoMemory>
@@ -115,62 +157,63 @@ impl Table {
         ensures ok { OnOk result ((s : ℕ) → cells_at self.new s ≡ added (cells_at self.old) slot cell s) }
         ensures err { OnErr result ((s : ℕ) → cells_at self.new s ≡ cells_at self.old s) }
     {
-        grow(&mut self.form, self.alloc)?;
+        grow(&mut self.form, 1, self.alloc)?;
         add_to(&mut self.form, slot, cell)
     }
 
-    // Adds the cells of a slot, one by one.
-    fn merge_entries(&mut self, from: &[Entry], slot: u16) -> Result<(), NoMemory>
-        requires slot { slot < 512 }
-        requires entries { AreEntries from.now }
-        requires few { (group : ℤ) → count_at (cells_at self.old slot) group + count_at (held from.now slot) group ≤ 2 ^ 62 }
-        ensures ok { OnOk result ((s : ℕ) → cells_at self.new s ≡ merged (cells_at self.old) slot (held from.now slot) s) }
-        ensures others { (s : ℕ) → (s == slot) ≡ false → cells_at self.new s ≡ cells_at self.old s }
+    // Adds the cell to that of its group in each of these slots.
+    #[tactic(auto, unfolding(crate::specs::Tables::cells_at))]
+    fn add_cell_each(&mut self, slots: &QuerySet, cell: Cell) -> Result<(), NoMemory>
+        requires some { 0 < cell.count }
+        requires sound { IsSound cell }
+        requires few { (slot : ℕ) → slice_index_or slots.now slot false ≡ true →
+            count_at (cells_at self.old slot) cell.group + cell.count ≤ 2 ^ 62 }
+        ensures ok { OnOk result ((s : ℕ) → cells_at self.new s ≡ added_each (cells_at self.old) slots.now cell s) }
+        ensures err { OnErr result (HaveSome (cells_at self.old) (cells_at self.new) slots.now cell) }
     {
-        for entry in from {
-            if entry.slot == slot {
-                self.add_cell(slot, entry.cell)?;
-            }
-        }
-        Ok(())
+        grow(&mut self.form, slots.ones() as usize, self.alloc)?;
+        add_each_to(&mut self.form, slots, cell)
     }
 
-    // Adds the cells of a slot, one by one.
-    fn merge_rows(&mut self, from: &[Row], slot: u16) -> Result<(), NoMemory>
+    // Adds cells to those of a slot, one by one.
+    fn add_cells(&mut self, slot: u16, cells: &[Cell]) -> Result<(), NoMemory>
         requires slot { slot < 512 }
-        requires rows { AreRows from.now }
-        requires few { (group : ℤ) → count_at (cells_at self.old slot) group + count_at (cells_of from.now slot) group ≤ 2 ^ 62 }
-        ensures ok { OnOk result ((s : ℕ) → cells_at self.new s ≡ merged (cells_at self.old) slot (cells_of from.now slot) s) }
-        ensures others { (s : ℕ) → (s == slot) ≡ false → cells_at self.new s ≡ cells_at self.old s }
+        requires sound { AllByRecursion IsSound cells.now }
+        requires some { AllByRecursion (λ (c : Cell). 0 < c.count) cells.now }
+        requires few { (group : ℤ) → count_at (cells_at self.old slot) group + count_at cells.now group ≤ 2 ^ 62 }
+        ensures ok { OnOk result ((s : ℕ) → cells_at self.new s ≡ merged (cells_at self.old) slot cells.now s) }
+        ensures err { OnErr result (HaveFirst (cells_at self.old) (cells_at self.new) slot cells.now) }
     {
-        for row in from {
-            let cell = row.cell(slot);
-            if cell.count != 0 {
-                self.add_cell(slot, cell)?;
-            }
+        for cell in cells {
+            self.add_cell(slot, *cell)?;
         }
         Ok(())
     }
 }
 
-// Few cells, in rows.
-fn in_rows(entries: &[Entry], alloc: Global) -> Result<Large, NoMemory>
+// Few cells, in columns.
+fn in_columns(entries: &[Entry], alloc: Global) -> Result<Large, NoMemory>
     requires { AreEntries entries.now }
     ensures { IfOk result (λ large. (s : ℕ) → sums (cells_of large s) ≡ sums (held entries.now s)) }
 {
-    let mut large = Large::new(alloc);
+    let mut large = Large::new(alloc)?;
     for entry in entries {
         large.add(entry.slot, entry.cell)?;
     }
     Ok(large)
 }
 
-// Makes room for one cell more: cells that are few, and will be no longer, go into rows.
-fn grow(form: &mut Form, alloc: Global) -> Result<(), NoMemory>
+// Whether so many cells, and so many more, are no longer few.
+fn are_many(cells: usize, more: usize) -> bool {
+    cells.saturating_add(more) > FEW
+}
+
+// Makes room for some cells more: cells that are few, and will be no longer, go into columns.
+fn grow(form: &mut Form, more: usize, alloc: Global) -> Result<(), NoMemory>
     ensures { (s : ℕ) → sums (held_at form.new s) ≡ sums (held_at form.old s) }
 {
     let large = match form {
-        Form::Small(small) if small.len() >= FEW => in_rows(small.entries(), alloc)?,
+        Form::Small(small) if are_many(small.len(), more) => in_columns(small.entries(), alloc)?,
         _ => return Ok(()),
     };
     *form = Form::Large(large);
@@ -192,6 +235,21 @@ fn add_to(form: &mut Form, slot: u16, cell: Cell) -> Result<(), NoMemory>
     }
 }
 
+// Adds the cell to that of its group in each of these slots.
+fn add_each_to(form: &mut Form, slots: &QuerySet, cell: Cell) -> Result<(), NoMemory>
+    requires some { 0 < cell.count }
+    requires sound { IsSound cell }
+    requires few { (slot : ℕ) → slice_index_or slots.now slot false ≡ true →
+        count_at (sums (held_at form.old slot)) cell.group + cell.count ≤ 2 ^ 62 }
+    ensures ok { OnOk result ((s : ℕ) → sums (held_at form.new s) ≡ added_each (λ k. sums (held_at form.old k)) slots.now cell s) }
+    ensures err { OnErr result (HaveSome (λ k. sums (held_at form.old k)) (λ k. sums (held_at form.new k)) slots.now cell) }
+{
+    match form {
+        Form::Small(small) => small.add_each(slots, cell),
+        Form::Large(large) => large.add_each(slots, cell),
+    }
+}
+
 // Takes the cells of these slots out.
 fn drop_slots(form: &mut Form, slots: &QuerySet)
     ensures { (s : ℕ) → sums (held_at form.new s) ≡ dropped (λ k. sums (held_at form.old k)) slots.now s }
@@ -202,45 +260,34 @@ fn drop_slots(form: &mut Form, slots: &QuerySet)
     }
 }
 
-// The cells of a slot, in the order held.
-fn gather(form: &Form, slot: u16, alloc: Global) -> Result<Vec<Cell>, NoMemory>
-    ensures cells { IfOk result (λ cells. cells.items ≡ held_at form.now slot) }
-    ensures once { (group : ℤ) → times group (held_at form.now slot) ≤ 1 }
+// Takes all cells out.
+fn clear(form: &mut Form)
+    ensures { (s : ℕ) → sums (held_at form.new s) ≡ [] }
 {
     match form {
-        Form::Small(small) => gather_entries(small.entries(), slot, alloc),
-        Form::Large(large) => gather_rows(large.rows(), slot, alloc),
+        Form::Small(small) => small.clear(),
+        Form::Large(large) => large.clear(),
+    }
+}
+
+// Puts the cells of a slot, in the order held, behind those of the list.
+fn append(form: &Form, slot: u16, cells: &mut Vec<Cell>) -> Result<(), NoMemory>
+    ensures ok { OnOk result (cells.new.items ≡ cells.old.items ++ held_at form.now slot) }
+    ensures cells { AreCells (held_at form.now slot) }
+{
+    match form {
+        Form::Small(small) => small.append(slot, cells),
+        Form::Large(large) => large.append(slot, cells),
     }
 }
 
 // The cells of a slot, in the order held.
-fn gather_entries(entries: &[Entry], slot: u16, alloc: Global) -> Result<Vec<Cell>, NoMemory>
-    ensures { IfOk result (λ cells. cells.items ≡ held entries.now slot) }
+fn gather(form: &Form, slot: u16, alloc: Global) -> Result<Vec<Cell>, NoMemory>
+    ensures value { IfOk result (λ cells. cells.items ≡ held_at form.now slot) }
+    ensures cells { AreCells (held_at form.now slot) }
 {
     let mut cells = Vec::new(alloc);
-    for entry in entries {
-        if entry.slot == slot {
-            cells.push(entry.cell)?;
-        }
-    }
-    Ok(cells)
-}
-
-// The cells of a slot, in the order held.
-fn gather_rows(rows: &[Row], slot: u16, alloc: Global) -> Result<Vec<Cell>, NoMemory>
-    requires { AllByRecursion IsRow rows.now }
-    ensures { IfOk result (λ cells. cells.items ≡ cells_of rows.now slot) }
-{
-    let mut cells = Vec::new(alloc);
-    if slot >= 512 {
-        return Ok(cells);
-    }
-    for row in rows {
-        let cell = row.cell(slot);
-        if cell.count != 0 {
-            cells.push(cell)?;
-        }
-    }
+    append(form, slot, &mut cells)?;
     Ok(cells)
 }
 

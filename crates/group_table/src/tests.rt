@@ -88,3 +88,31 @@ fn twenty_groups(rt: HostRuntime) -> Result<(), Fail> {
     assert!(rt; are_twenty(&table, 500, -9, 1)?);
     Ok(())
 }
+
+#[test]
+fn each_of_many_slots(rt: HostRuntime) -> Result<(), Fail> {
+    let mut table = Table::new(rt.alloc());
+    table.add_each(&QuerySet::all(), 5, 7)?;
+    assert!(rt; table.len() == 512);
+    assert!(rt; table.is_small());
+    let cell = Cell {
+        group: 5,
+        sum: 7,
+        count: 1,
+    };
+    assert!(rt; table.sorted_rows(511)?.as_slice() == [cell].as_slice());
+    table.clear();
+    assert!(rt; table.len() == 0);
+    Ok(())
+}
+
+#[test]
+fn a_slot_appended_twice(rt: HostRuntime) -> Result<(), Fail> {
+    let mut table = Table::new(rt.alloc());
+    table.add_each(&QuerySet::none().with(3, true), 5, 7)?;
+    let mut cells = Vec::new(rt.alloc());
+    table.append_slot(3, &mut cells)?;
+    table.append_slot(3, &mut cells)?;
+    assert!(rt; cells.len() == 2);
+    Ok(())
+}

@@ -1,11 +1,14 @@
 -- What the parts of all streams say of the whole.
-use Rattle.std.proofs.Common.{◌≡◌, inl, inr, ◌↔◌, ℕ, zero, suc, ◌+◌, ◌-◌, ◌<◌, ◌≤◌, ◌&&◌, eqb, min, max, Bool, true, false, cond, Option, Some, None, List, [], ◌∷◌, ◌++◌, map, length, get_or, take, drop, length-append, refl, sym, ap, ap₂, subst, ◌∙◌, arith}
+use Rattle.std.proofs.Common.{◌≡◌, inl, inr, ◌↔◌, ℕ, zero, suc, ◌+◌, ◌-◌, ◌<◌, ◌≤◌, ◌&&◌, eqb, min, max, Bool, true, false, cond, true≢false, Option, Some, None, List, [], ◌∷◌, ◌++◌, map, length, get_or, take, drop, length-append, refl, sym, ap, ap₂, subst, ◌∙◌, arith}
 use Rattle.std.specs.List.{AllByRecursion, fold}
 use Rattle.std.proofs.lemmas.Bool.{cases_lt, eqb-true, eq-eqb}
 use Rattle.std.proofs.lemmas.Int.{clamps}
 use Rattle.std.proofs.lemmas.List.FromFn.{length-map-range_with_len, get_or-map-range_with_len}
+use Rattle.as_base.specs.declared.fragment.Cell.{Cell}
 use Rattle.as_base.specs.declared.item.Given.{Given}
 use Rattle.as_base.specs.declared.message.Change.{Change}
+use Rattle.as_base.specs.declared.stream.StreamId.{StreamId}
+use Rattle.as_base.specs.Stream.{place_of}
 use Rattle.changelog.specs.BySlot.{by_slot, renewed}
 use Rattle.changelog.specs.Changes.{slot_of, owner}
 use Rattle.changelog.specs.EpochsFor.{EpochsFor, IsKept, owned}
@@ -14,13 +17,14 @@ use Rattle.changelog.proofs.BySlotLaws.{by_slot-between, by_slot-back, by_slot-a
 use Rattle.group_table.specs.Cells.{add_in}
 use Rattle.group_table.specs.Tables.{cells_at}
 use Rattle.shared_agg.specs.declared.aggs.Aggs.{Aggs}
+use Rattle.shared_agg.specs.declared.aggs.Cache.{Cache}
 use Rattle.shared_agg.specs.declared.duties.Duty.{Duty}
 use Rattle.shared_agg.specs.declared.slices.Slice.{Slice}
 use Rattle.shared_agg.specs.Duties.{duty_of, dues, all_slots}
 use Rattle.shared_agg.specs.Shares.{shares}
-use Rattle.shared_agg.specs.Slices.{Lane, starts, cells_from, epoch_from, StartsRise, HasCell, AreFed}
-use Rattle.shared_agg.specs.Walk.{has, due}
-use Rattle.shared_agg.specs.Aggs.{lane_at, AggsFor}
+use Rattle.shared_agg.specs.Slices.{Lane, starts, cells_from, epoch_from, StartsRise, HasCell, AreFed, ArePartlyFed}
+use Rattle.shared_agg.specs.Fill.{has, due}
+use Rattle.shared_agg.specs.Aggs.{lane_at, cache_at, IsCacheFor, AggsFor, HaveShares}
 use Rattle.shared_agg.proofs.DutyLaws.{dues-shares}
 use Rattle.shared_agg.proofs.OrderLaws.{all-at}
 use Rattle.shared_agg.proofs.SliceLaws.{apart-above, total-empty}
@@ -54,10 +58,22 @@ some-renewed e cs from to low high slots xs stands kept kept' le le' at at' belo
 
 -- What stands for some changes stands for them and one more.
 pub AggsFor-push : (a : Aggs) (cs : List Change) (c : Change) → AggsFor a cs → AggsFor a (cs ++ c ∷ [])
-AggsFor-push a cs c h = record {
-  duties = h.duties ∙ sym (by_slot-push duty_of cs c a.epoch h.epoch);
-  epoch = let l = length-append cs (c ∷ []) in let e = h.epoch in omega (arith, l, e);
-}
+AggsFor-push a cs c h = record { caches = λ s. pushed (cache_at a.caches (place_of s)) (h.caches s) }
+  where
+    pushed : (k : Cache) → IsCacheFor k cs → IsCacheFor k (cs ++ c ∷ [])
+    pushed k h = record {
+      duties = h.duties ∙ sym (by_slot-push duty_of cs c k.epoch h.epoch);
+      epoch = let l = length-append cs (c ∷ []) in let e = h.epoch in omega (arith, l, e);
+    }
+
+-- one cache was turned
+pub turned : (old new : Aggs) (cs : List Change) (place : ℕ) → IsCacheFor (cache_at new.caches place) cs
+    → ((i : ℕ) → eqb i place ≡ false → cache_at new.caches i ≡ cache_at old.caches i) → AggsFor old cs → AggsFor new cs
+turned old new cs place one others h = record { caches = λ s. go s (eqb (place_of s) place) refl }
+  where
+    go : (s : StreamId) (b : Bool) → eqb (place_of s) place ≡ b → IsCacheFor (cache_at new.caches (place_of s)) cs
+    go s true e = subst (λ n. IsCacheFor (cache_at new.caches n) cs) (sym (eqb-true (place_of s) place e)) one
+    go s false e = subst (λ (k : Cache). IsCacheFor k cs) (sym (others (place_of s) e)) (h.caches s)
 
 -- what is due by the duties is what is due for the owners
 pub due-owner : (g : Given) (slots : List Bool) (duties : List (Option Duty)) (cs : List Change) (epoch slot : ℕ) → slot < 512 → duties ≡ by_slot duty_of cs epoch
@@ -134,12 +150,37 @@ filled-there xs filled c = (gone xs, none xs filled)
         go false k rest = rest k
 
 -- the same, from what the code has
-pub added-at : (g : Given) (slots : List Bool) (cs : List Change) (epoch start place own other : ℕ) (a : Aggs) (was olds news : List Lane)
-    → place ≡ own → olds ≡ was → AggsFor a cs → a.epoch ≡ epoch
-    → AreFed start (due g slots a.duties) (lane_at olds place).slices (lane_at news place).slices
+pub added-at : (g : Given) (slots : List Bool) (cs : List Change) (epoch start place own other : ℕ) (duties : List (Option Duty)) (olds news : List Lane)
+    → place ≡ own → duties ≡ by_slot duty_of cs epoch
+    → AreFed start (due g slots duties) (lane_at olds place).slices (lane_at news place).slices
     → ((i : ℕ) → eqb i place ≡ false → lane_at news i ≡ lane_at olds i)
     → (c slot : ℕ) → slot < 512 → cells_from (lane_at news other).slices c slot
-    ≡ fold add_in (cells_from (lane_at was other).slices c slot) (cond ((eqb other own && eqb c start) && has slots slot) (shares g (owner cs epoch slot)) [])
-added-at g slots cs epoch start place own other a was olds news at same for_ is fed others c slot low =
-    added-all g slots cs epoch start place other a.duties olds news (for_.duties ∙ ap (by_slot duty_of cs) is) fed others c slot low
-    ∙ ap₂ (λ (l : List Lane) n. fold add_in (cells_from (lane_at l other).slices c slot) (cond ((eqb other n && eqb c start) && has slots slot) (shares g (owner cs epoch slot)) [])) same at
+    ≡ fold add_in (cells_from (lane_at olds other).slices c slot) (cond ((eqb other own && eqb c start) && has slots slot) (shares g (owner cs epoch slot)) [])
+added-at g slots cs epoch start place own other duties olds news at are fed others c slot low =
+    added-all g slots cs epoch start place other duties olds news are fed others c slot low
+    ∙ ap (λ n. fold add_in (cells_from (lane_at olds other).slices c slot) (cond ((eqb other n && eqb c start) && has slots slot) (shares g (owner cs epoch slot)) [])) at
+
+-- some slots have got their shares
+pub partly-at : (g : Given) (slots : List Bool) (cs : List Change) (epoch start place : ℕ) (s : StreamId) (duties : List (Option Duty)) (old new : Aggs)
+    → place ≡ place_of s → duties ≡ by_slot duty_of cs epoch
+    → ArePartlyFed start (due g slots duties) (lane_at old.lanes place).slices (lane_at new.lanes place).slices → HaveShares old new s start epoch g slots cs
+partly-at g slots cs epoch start place s duties old new at are part = record {
+  which = λ slot. part.which slot && has slots slot;
+  among = λ slot h. second (part.which slot) (has slots slot) h;
+  cells = λ slot low.
+      ap (λ n. cells_from (lane_at new.lanes n).slices start slot) (sym at)
+      ∙ part.fed start slot low
+      ∙ ap (fold add_in (cells_from (lane_at old.lanes place).slices start slot)) (
+      ap (λ b. cond b (cond (part.which slot) (due g slots duties slot) []) []) (eq-eqb start start refl)
+      ∙ ap (λ l. cond (part.which slot) l []) (due-owner g slots duties cs epoch slot low are)
+      ∙ joined (part.which slot) (has slots slot) (shares g (owner cs epoch slot)))
+      ∙ ap (λ n. fold add_in (cells_from (lane_at old.lanes n).slices start slot) (cond (part.which slot && has slots slot) (shares g (owner cs epoch slot)) [])) at;
+}
+  where
+    second : (b c : Bool) → (b && c) ≡ true → c ≡ true
+    second true c h = h
+    second false c h = absurd (true≢false (sym h))
+
+    joined : (b c : Bool) (l : List Cell) → cond b (cond c l []) [] ≡ cond (b && c) l []
+    joined true c l = refl
+    joined false c l = refl

@@ -1,18 +1,22 @@
--- The sets of the duties, one of which is renewed, and the duties of all slots.
-use Rattle.std.proofs.Common.{◌≡◌, ℕ, zero, suc, ◌+◌, Bool, Option, Some, None, List, [], ◌∷◌, ◌++◌, map, set, refl, sym, ap, ◌∙◌, arith, length-set}
+-- The classes of the duties, one of which is renewed, and the duties of all slots.
+use Rattle.std.proofs.Common.{◌≡◌, ℕ, zero, suc, ◌+◌, ◌<◌, Bool, false, Option, Some, None, List, [], ◌∷◌, ◌++◌, map, set, get_or, length, replicate, refl, sym, ap, ap₂, ◌∙◌, arith, length-set}
+use Rattle.std.proofs.lemmas.List.{get_or-map, length-replicate}
 use Rattle.std.specs.List.{range_with_len}
 use Rattle.std.proofs.lemmas.List.Sums.{fold-append}
 use Rattle.as_base.specs.declared.item.Given.{Given}
-use Rattle.as_base.specs.declared.query.Col.TheVariants.{V1, V2, V3, V4}
+use Rattle.as_base.specs.declared.query.Col.{Col}
+use Rattle.as_base.specs.declared.query.Col.TheVariants.{V1}
 use Rattle.as_base.specs.declared.query.Group.{Group}
 use Rattle.as_base.specs.declared.query.Group.TheVariants as group
 use Rattle.as_base.specs.declared.query.Kind.{Kind}
 use Rattle.as_base.specs.declared.query.Kind.TheVariants.{Select, Sum, Count, Join}
 use Rattle.as_base.specs.declared.query.Plan.{Plan}
 use Rattle.changelog.specs.BySlot.{renewed}
+use Rattle.queryset_lanes.specs.Slots.{has_slot}
+use Rattle.shared_agg.specs.declared.duties.Class.{Class}
 use Rattle.shared_agg.specs.declared.duties.Duty.{Duty}
 use Rattle.shared_agg.specs.Shares.{share_of, shares}
-use Rattle.shared_agg.specs.Duties.{duty_in, duty_of, dues, is_by, slots_by, AreSets, all_slots}
+use Rattle.shared_agg.specs.Duties.{duty_in, duty_of, dues, is_of, kinds, class_of, class_at, marked, AreClasses, all_slots}
 
 map-set : {X Y : Type 0} (f : X → Y) (xs : List X) (k : ℕ) (x : X) → set (map f xs) k (f x) ≡ map f (set xs k x)
 map-set f [] zero x = refl
@@ -20,25 +24,56 @@ map-set f [] (suc k) x = refl
 map-set f (y ∷ xs) zero x = refl
 map-set f (y ∷ xs) (suc k) x = ap (λ l. f y ∷ l) (map-set f xs k x)
 
-marked : (by : Group) (duties : List (Option Duty)) (slot : ℕ) (duty : Option Duty) (old new : List Bool)
-    → old ≡ slots_by by duties → new ≡ set old slot (is_by by duty) → new ≡ slots_by by (set duties slot duty)
-marked by duties slot duty old new was is = is ∙ ap (λ l. set l slot (is_by by duty)) was ∙ map-set (is_by by) duties slot duty
+map-replicate : {X Y : Type 0} (f : X → Y) (n : ℕ) (x : X) → map f (replicate n x) ≡ replicate n (f x)
+map-replicate f zero x = refl
+map-replicate f (suc n) x = ap (λ l. f x ∷ l) (map-replicate f n x)
 
 -- one slot has another duty
-pub sets-set : (duties : List (Option Duty)) (key v1 v2 v3 v4 all key' v1' v2' v3' v4' all' : List Bool) (slot : ℕ) (duty : Option Duty)
-    → AreSets duties key v1 v2 v3 v4 all
-    → key' ≡ set key slot (is_by group.Key duty) → v1' ≡ set v1 slot (is_by (group.Col V1) duty) → v2' ≡ set v2 slot (is_by (group.Col V2) duty)
-    → v3' ≡ set v3 slot (is_by (group.Col V3) duty) → v4' ≡ set v4 slot (is_by (group.Col V4) duty) → all' ≡ set all slot (is_by group.All duty)
-    → AreSets (set duties slot duty) key' v1' v2' v3' v4' all'
-sets-set duties key v1 v2 v3 v4 all key' v1' v2' v3' v4' all' slot duty h a b c d e f = record {
+marked-all : (duties : List (Option Duty)) (slot : ℕ) (duty : Option Duty) (ks : List Duty)
+    → map (marked slot duty) (map (class_of duties) ks) ≡ map (class_of (set duties slot duty)) ks
+marked-all duties slot duty [] = refl
+marked-all duties slot duty (k ∷ ks) =
+    ap₂ (λ (l : List Bool) (cs : List Class). record { group = k.group; column = k.column; slots = l } ∷ cs)
+    (map-set (is_of k.group k.column) duties slot duty) (marked-all duties slot duty ks)
+
+pub classes-set : (duties : List (Option Duty)) (classes classes' : List Class) (used used' : List Bool) (slot : ℕ) (duty : Option Duty) → AreClasses duties classes used
+    → classes' ≡ map (marked slot duty) classes → used' ≡ map (λ (c : Class). has_slot c.slots) classes' → AreClasses (set duties slot duty) classes' used'
+classes-set duties classes classes' used used' slot duty h is are = record {
   long = length-set duties slot duty ∙ h.long;
-  by_key = marked group.Key duties slot duty key key' h.by_key a;
-  by_v1 = marked (group.Col V1) duties slot duty v1 v1' h.by_v1 b;
-  by_v2 = marked (group.Col V2) duties slot duty v2 v2' h.by_v2 c;
-  by_v3 = marked (group.Col V3) duties slot duty v3 v3' h.by_v3 d;
-  by_v4 = marked (group.Col V4) duties slot duty v4 v4' h.by_v4 e;
-  by_all = marked group.All duties slot duty all all' h.by_all f;
+  classes_are = is ∙ ap (map (marked slot duty)) h.classes_are ∙ marked-all duties slot duty kinds;
+  used_are = are;
 }
+
+-- no slot has a duty
+pub none-of : (by : Group) (column : Option Col) → map (is_of by column) (replicate 512 None) ≡ replicate 512 false
+none-of by column = map-replicate (is_of by column) 512 None
+
+none-on : (n : ℕ) → has_slot (replicate n false) ≡ false
+none-on zero = refl
+none-on (suc n) = none-on n
+
+none-used : (ks : List Duty) → map (λ (c : Class). has_slot c.slots) (map (class_of (replicate 512 None)) ks) ≡ replicate (length ks) false
+none-used [] = refl
+none-used (k ∷ ks) = ap₂ (λ (b : Bool) l. b ∷ l) (ap has_slot (none-of k.group k.column) ∙ none-on 512) (none-used ks)
+
+pub classes-none : (classes : List Class) → classes ≡ map (class_of (replicate 512 None)) kinds → AreClasses (replicate 512 None) classes (replicate 30 false)
+classes-none classes is = record {
+  long = length-replicate {A = Option Duty} 512 None;
+  classes_are = is;
+  used_are = sym (ap (map (λ (c : Class). has_slot c.slots)) is ∙ none-used kinds);
+}
+
+-- the class at a place
+module _ (duties : List (Option Duty)) (classes : List Class) (used : List Bool) (h : AreClasses duties classes used) (place : ℕ) (low : place < 30) where
+  pub class-is : (d : Class) → get_or classes place d ≡ class_at duties place
+  class-is d = ap (λ l. get_or l place d) h.classes_are ∙ get_or-map (class_of duties) kinds place (record { group = group.Key; column = Some V1 }) d (omega (arith, low))
+
+  pub used-is : (b : Bool) → get_or used place b ≡ has_slot (class_at duties place).slots
+  used-is b =
+      ap (λ l. get_or l place b) (h.used_are ∙ ap (map (λ (c : Class). has_slot c.slots)) h.classes_are)
+      ∙ get_or-map (λ (c : Class). has_slot c.slots) (map (class_of duties) kinds) place (class_at duties place) b (omega (arith, low))
+      ∙ ap (λ (c : Class). has_slot c.slots)
+      (get_or-map (class_of duties) kinds place (record { group = group.Key; column = Some V1 }) (class_at duties place) (omega (arith, low)))
 
 -- ---- all slots are renewed
 

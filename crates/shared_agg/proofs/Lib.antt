@@ -1,8 +1,7 @@
-pub mod WalkLaws
+pub mod FillLaws
 pub mod OrderLaws
 pub mod SliceLaws
 pub mod StepLaws
 pub mod WindowLaws
 pub mod DutyLaws
-pub mod SetLaws
 pub mod AggLaws

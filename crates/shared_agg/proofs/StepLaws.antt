@@ -9,8 +9,9 @@ use Rattle.group_table.specs.Tables.{cells_at}
 use Rattle.group_table.specs.Totals.{total}
 use Rattle.group_table.proofs.SumLaws.{count-sums}
 use Rattle.shared_agg.specs.declared.slices.Slice.{Slice}
-use Rattle.shared_agg.specs.Slices.{lane, cells_from, epoch_from, count_in, StartsRise, HasCell, IsLane, IsChangedAt, HasGrown, HasGot, HasLost, IsSlice, IsPutIn, IsLetGo, AreFed, AreDropped, EpochsStay, OthersStay, without, begun_before}
-use Rattle.shared_agg.specs.Walk.{has}
+use Rattle.shared_agg.specs.Slices.{lane, cells_from, epoch_from, count_in, StartsRise, HasCell, IsLane, IsChangedAt, HasGrown, HasGot, HasLost, IsSlice, IsPutIn, IsLetGo, AreFed, ArePartlyFed, AreDropped, EpochsStay, OthersStay, without, begun_before}
+use Rattle.shared_agg.specs.Fill.{has}
+use Rattle.shared_agg.proofs.FillLaws.{partly-longer, partly-count}
 use Rattle.shared_agg.proofs.OrderLaws.{begins-before, begins-later}
 use Rattle.shared_agg.proofs.SliceLaws.{total-more, total-none, changed-rise, changed-epochs, changed-cells, changed-others, changed-all, changed-count, changed-length, IsGap, gap-cells, gap-epoch, put-cells, put-epoch, put-all, put-rise, put-count, less-rise, less-count, less-cells, less-epoch}
 
@@ -18,6 +19,22 @@ none-some : {X : Type 0} (x : X) → None ≡ Some x → ⊥
 none-some x e = cc
 
 -- ---- a slice that is there gets a record
+
+-- the slice at the place has got what is to be added to these slots
+record HasPicked (adds : ℕ → List Cell) (k : ℕ) (xs ys : List Slice) : Type 0 where
+  which : ℕ → Bool
+  got : IsChangedAt k (HasGot (λ s. cond (which s) (adds s) [])) xs ys
+
+picked : (adds : ℕ → List Cell) (k : ℕ) (xs ys : List Slice) → IsChangedAt k (HasGrown adds) xs ys → HasPicked adds k xs ys
+picked adds zero (x ∷ xs) (y ∷ ys) h = record {
+  which = h.0.partly.which;
+  got = (record { start = h.0.start; epoch = h.0.epoch; fed = h.0.partly.fed }, h.1);
+}
+picked adds (suc k) (x ∷ xs) (y ∷ ys) h = let p = picked adds k xs ys h.1 in record { which = p.which; got = (h.0, p.got) }
+picked adds zero [] ys h = absurd h
+picked adds (suc k) [] ys h = absurd h
+picked adds zero (x ∷ xs) [] h = absurd h
+picked adds (suc k) (x ∷ xs) [] h = absurd h
 
 module _ (start epoch k : ℕ) (adds : ℕ → List Cell) (xs ys : List Slice) (d : Slice) (rise : StartsRise xs) (lt : k < length xs) (here : (get_or xs k d).start ≡ start) where
   pub got-fed : IsChangedAt k (HasGot adds) xs ys → AreFed start adds xs ys
@@ -49,13 +66,19 @@ module _ (start epoch k : ℕ) (adds : ℕ → List Cell) (xs ys : List Slice) (
       → (n : ℕ) → n < 2 ^ 62 → IsLane (lane xs n) → IsLane (lane ys (n + 1))
   grown-lane most h n few l = record {
     rise = changed-rise (HasGrown adds) (λ x y r. r.start) k xs ys h l.rise;
-    filled = changed-all (HasGrown adds) HasCell (λ x y r p. let a = total-more (cells_at x.table) (cells_at y.table) r.grown.cells in omega (arith, a, p)) k xs ys h l.filled;
+    filled = changed-all (HasGrown adds) HasCell (λ x y r p. let a = total-more (cells_at x.table) (cells_at y.table) (partly-longer x.table y.table adds r.partly) in omega (arith, a, p)) k xs ys h l.filled;
     counted = λ slot g.
-        let a = changed-count (HasGrown adds) slot g 1 (λ x y r. let b = r.grown.counts slot g in let m = most slot g in omega (arith, b, m)) k xs ys h in
+        let a = changed-count (HasGrown adds) slot g 1 (λ x y r. let b = partly-count x.table y.table adds r.partly slot g in let m = most slot g in omega (arith, b, m)) k xs ys h in
         let b = l.counted slot g in
         omega (arith, a, b);
     few = omega (arith, few);
   }
+
+pub grown-partly : (start k : ℕ) (adds : ℕ → List Cell) (xs ys : List Slice) (d : Slice) → StartsRise xs → k < length xs → (get_or xs k d).start ≡ start
+    → IsChangedAt k (HasGrown adds) xs ys → ArePartlyFed start adds xs ys
+grown-partly start k adds xs ys d rise lt here h =
+    let p = picked adds k xs ys h in
+    record { which = p.which; fed = got-fed start 0 k (λ s. cond (p.which s) (adds s) []) xs ys d rise lt here p.got }
 
 -- ---- a slice is made
 
@@ -137,11 +160,12 @@ module _ (start epoch k : ℕ) (adds : ℕ → List Cell) (xs ys : List Slice) (
     })
   ]
 
-pub none-others : (start : ℕ) (xs ys : List Slice) → ys ≡ xs → OthersStay start xs ys
-none-others start xs ys e = record {
-  cells = λ c slot h. ap (λ l. cells_from l c slot) e;
-  epochs = λ c. ap (λ l. epoch_from l c) e;
-}
+pub none-partly : (start : ℕ) (adds : ℕ → List Cell) (xs ys : List Slice) → ys ≡ xs → ArePartlyFed start adds xs ys
+none-partly start adds xs ys e = record { which = λ s. false; fed = λ c slot low. ap (λ l. cells_from l c slot) e ∙ nothing (eqb c start) (cells_from xs c slot) }
+  where
+    nothing : (b : Bool) (l : List Cell) → l ≡ fold add_in l (cond b [] [])
+    nothing true l = refl
+    nothing false l = refl
 
 pub none-stay : (start epoch : ℕ) (xs ys : List Slice) → ys ≡ xs → EpochsStay start epoch xs ys
 none-stay start epoch xs ys e = record {

@@ -1,14 +1,14 @@
 -- What the slices of a range add up to, and how many cells there are.
-use Rattle.std.proofs.Common.{◌≡◌, ◌⊎◌, inl, inr, ℕ, zero, suc, ℤ, ◌+◌, ◌-◌, ◌<◌, ◌≤◌, ◌^◌, ◌&&◌, ltb, leb, min, Bool, true, false, cond, List, [], ◌∷◌, ◌++◌, length, get_or, take, drop, refl, sym, ap, ap₂, ◌∙◌, arith}
+use Rattle.std.proofs.Common.{◌≡◌, ◌⊎◌, inl, inr, ℕ, zero, suc, ℤ, ◌+◌, ◌-◌, ◌<◌, ◌≤◌, ◌^◌, ◌&&◌, ltb, leb, min, Bool, true, false, cond, List, [], ◌∷◌, ◌++◌, length, get_or, take, drop, refl, sym, ap, ap₂, subst, ◌∙◌, arith}
 use Rattle.std.specs.List.{AllByRecursion, fold, flat_map, filter}
 use Rattle.std.proofs.lemmas.Bool.{cases_lt, lt-ltb, le-ltb, le-leb, lt-leb, eq-eqb}
 use Rattle.std.proofs.lemmas.Int.{clamps}
 use Rattle.std.proofs.lemmas.List.Sums.{fold-append}
 use Rattle.std.proofs.lemmas.Grind.{flat_map-append}
 use Rattle.as_base.specs.declared.fragment.Cell.{Cell}
-use Rattle.group_table.specs.Cells.{add_in, sums, count_at}
-use Rattle.group_table.specs.Tables.{held_at, cells_at}
-use Rattle.group_table.specs.declared.table.Table.{Table}
+use Rattle.group_table.specs.Cells.{add_in, sums, count_at, IsSound}
+use Rattle.group_table.specs.Steps.{AreAppended}
+use Rattle.group_table.specs.Tables.{cells_at}
 use Rattle.group_table.specs.Totals.{total}
 use Rattle.group_table.proofs.CellLaws.{merge}
 use Rattle.group_table.proofs.SumLaws.{count-sums}
@@ -16,7 +16,7 @@ use Rattle.shared_agg.specs.declared.slices.Slice.{Slice}
 use Rattle.shared_agg.specs.Slices.{starts, cells_from, count_in, total_in, begun_before, is_between, cells_within, StartsRise}
 use Rattle.shared_agg.proofs.OrderLaws.{all-by, begun-first, begun-later, begun-none}
 use Rattle.shared_agg.proofs.SliceLaws.{apart-above}
-use Rattle.shared_agg.proofs.WalkLaws.{count-append}
+use Rattle.shared_agg.proofs.FillLaws.{count-append}
 
 abbrev cells : ℕ → Slice → List Cell
 cells slot s = cells_at s.table slot
@@ -66,48 +66,36 @@ part-count (x ∷ xs) zero (suc n) slot g =
     omega (arith, a, b)
 part-count (x ∷ xs) (suc f) n slot g = let a = part-count xs f n slot g in omega (arith, a)
 
-module _ (first place slot : ℕ) (xs : List Slice) (d : Slice) (table : Table) (le : first ≤ place) (lt : place < length xs) (so_far : cells_at table slot ≡ sums (cells_within first place slot xs)) where
-  -- there is room for the next
-  pub merge-room : (g : ℤ) → count_in xs slot g ≤ 2 ^ 62 → count_at (cells_at table slot) g + count_at (cells slot (get_or xs place d)) g ≤ 2 ^ 62
-  merge-room g few =
-      let a = ap (λ l. count_at l g) so_far in
-      let b = count-sums g (cells_within first place slot xs) in
-      let c = ap (λ l. count_at l g) (within-more first place slot xs d le lt) in
-      let e = count-append g (cells_within first place slot xs) (cells slot (get_or xs place d)) in
-      let f = part-count xs first (place + 1 - first) slot g in
-      omega (arith, a, b, c, e, f, few)
+-- the cells of one slice more
+pub gather-more : (first place slot : ℕ) (xs : List Slice) (d : Slice) (old new : List Cell) → first ≤ place → place < length xs
+    → sums old ≡ sums (cells_within first place slot xs) → AreAppended old new (cells slot (get_or xs place d)) → sums new ≡ sums (cells_within first (place + 1) slot xs)
+gather-more first place slot xs d old new le lt so_far more =
+    ap sums more.items ∙ fold-append add_in [] old more.behind
+    ∙ sym (merge (sums old) more.behind)
+    ∙ ap₂ (fold add_in) so_far more.sums_are
+    ∙ sym (fold-append add_in [] (cells_within first place slot xs) (cells slot (get_or xs place d)))
+    ∙ sym (ap sums (within-more first place slot xs d le lt))
 
-  pub merge-more : (new : Table) → cells_at new slot ≡ fold add_in (cells_at table slot) (cells slot (get_or xs place d)) → cells_at new slot ≡ sums (cells_within first (place + 1) slot xs)
-  merge-more new is =
-      is ∙ ap (λ l. fold add_in l (cells slot (get_or xs place d))) so_far
-      ∙ sym (fold-append add_in [] (cells_within first place slot xs) (cells slot (get_or xs place d)))
-      ∙ sym (ap sums (within-more first place slot xs d le lt))
+pub sound-more : (old new more : List Cell) → AllByRecursion IsSound old → AreAppended old new more → AllByRecursion IsSound new
+sound-more old new more sound h = subst (AllByRecursion IsSound) (sym h.items) (joined old h.behind sound h.sound)
+  where
+    joined : (cs ds : List Cell) → AllByRecursion IsSound cs → AllByRecursion IsSound ds → AllByRecursion IsSound (cs ++ ds)
+    joined [] ds p q = q
+    joined (c ∷ cs) ds p q = (p.0, joined cs ds p.1 q)
+
+-- no group comes to more than all slices count
+pub gathered-few : (first past slot : ℕ) (xs : List Slice) (all : List Cell) → sums all ≡ sums (cells_within first past slot xs)
+    → (g : ℤ) → count_in xs slot g ≤ 2 ^ 62 → count_at all g ≤ 2 ^ 62
+gathered-few first past slot xs all is g few =
+    let a = count-sums g all in
+    let b = ap (λ l. count_at l g) is in
+    let c = count-sums g (cells_within first past slot xs) in
+    let d = part-count xs first (past - first) slot g in
+    omega (arith, a, b, c, d, few)
 
 none-taken : (slot : ℕ) (ys : List Slice) → flat_map (cells slot) (take 0 ys) ≡ []
 none-taken slot [] = refl
 none-taken slot (y ∷ ys) = refl
-
--- no slice
-pub none-within : (first past slot : ℕ) (xs : List Slice) → past ≤ first → [] ≡ sums (cells_within first past slot xs)
-none-within first past slot xs le =
-    let e : past - first ≡ 0 = omega (arith, le) in
-    sym (ap (λ n. sums (flat_map (cells slot) (take n (drop first xs)))) e ∙ ap sums (none-taken slot (drop first xs)))
-
--- a slot's cells are sums already
-sums-again : (t : Table) (slot : ℕ) → sums (cells_at t slot) ≡ cells_at t slot
-unfolding cells_at
-sums-again t slot = merge [] (held_at t.form slot)
-
--- one slice
-pub one-within : (first past slot : ℕ) (xs : List Slice) (d : Slice) → past - first ≡ 1 → first < length xs → cells slot (get_or xs first d) ≡ sums (cells_within first past slot xs)
-one-within first past slot xs d one lt =
-    let e : past - first ≡ first + 1 - first = omega (arith, one) in
-    let f : first - first ≡ 0 = omega arith in
-    sym (ap (λ n. sums (flat_map (cells slot) (take n (drop first xs)))) e
-    ∙ ap sums (within-more first first slot xs d (omega arith) lt)
-    ∙ ap (λ n. sums (flat_map (cells slot) (take n (drop first xs)) ++ cells slot (get_or xs first d))) f
-    ∙ ap (λ l. sums (l ++ cells slot (get_or xs first d))) (none-taken slot (drop first xs))
-    ∙ sums-again (get_or xs first d).table slot)
 
 -- ---- the slices of a range
 

@@ -1,13 +1,19 @@
 -- What is kept of all streams, and of which changes its duties are.
-use Rattle.std.specs.Prelude.{◌≡◌, ℕ, ◌+◌, ◌≤◌, ◌==◌, ◌&&◌, Bool, Option, List, [], length, slice_index_or}
+use Rattle.std.specs.Prelude.{◌≡◌, ℕ, ◌+◌, ◌<◌, ◌≤◌, ◌==◌, ◌&&◌, Bool, true, if◌then◌else◌, Option, List, [], fold, length, slice_index_or}
 use Rattle.as_base.specs.declared.fragment.Cell.{Cell}
 use Rattle.as_base.specs.declared.message.Change.{Change}
 use Rattle.as_base.specs.declared.stream.StreamId.{StreamId}
 use Rattle.as_base.specs.declared.stream.StreamId.TheVariants.{A, B, C, D}
 use Rattle.as_base.specs.Stream.{place_of}
+use Rattle.as_base.specs.declared.item.Given.{Given}
 use Rattle.changelog.specs.BySlot.{by_slot}
+use Rattle.changelog.specs.Changes.{owner}
+use Rattle.group_table.specs.Cells.{add_in}
 use Rattle.shared_agg.specs.declared.aggs.Aggs.{Aggs}
+use Rattle.shared_agg.specs.declared.aggs.Cache.{Cache}
 use Rattle.shared_agg.specs.Duties.{duty_of}
+use Rattle.shared_agg.specs.Fill.{has}
+use Rattle.shared_agg.specs.Shares.{shares}
 use Rattle.shared_agg.specs.Slices.{Lane, starts, cells_from, epoch_from, total_in}
 
 -- a lane without a slice
@@ -51,7 +57,22 @@ pub record IsNone (a : Aggs) : Type 0 where
   pub starts_are : (s : StreamId) → starts_of a s ≡ []
   pub records_are : (s : StreamId) → records_of a s ≡ 0
 
--- Its duties are those of the owners in its epoch of these changes.
+-- The duties are those of the owners in its epoch of these changes.
+pub record IsCacheFor (c : Cache) (cs : List Change) : Type 0 where
+  pub duties : c.duties ≡ by_slot duty_of cs c.epoch
+  pub epoch : c.epoch ≤ length cs
+
+-- the cache at a place
+abbrev pub cache_at : List Cache → ℕ → Cache
+cache_at caches place = slice_index_or caches place (record { epoch = 0; duties = [] })
+
+-- The duties that it holds for each stream are those of owners of these changes.
 pub record AggsFor (a : Aggs) (cs : List Change) : Type 0 where
-  pub duties : a.duties ≡ by_slot duty_of cs a.epoch
-  pub epoch : a.epoch ≤ length cs
+  pub caches : (s : StreamId) → IsCacheFor (cache_at a.caches (place_of s)) cs
+
+-- Some slots of the set have got the whole share of a record in the slice; the cells of all others there are as they were.
+pub record HaveShares (old new : Aggs) (s : StreamId) (start epoch : ℕ) (g : Given) (set : List Bool) (cs : List Change) : Type 0 where
+  pub which : ℕ → Bool
+  pub among : (slot : ℕ) → which slot ≡ true → has set slot ≡ true
+  pub cells : (slot : ℕ) → slot < 512 →
+      cells_in new s start slot ≡ fold add_in (cells_in old s start slot) (if which slot then shares g (owner cs epoch slot) else [])

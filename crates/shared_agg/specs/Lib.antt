@@ -1,6 +1,6 @@
 pub mod Shares
 pub mod Duties
-pub mod Walk
+pub mod Fill
 pub mod Slices
 pub mod Aggs
 pub mod Worked

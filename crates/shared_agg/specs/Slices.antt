@@ -7,7 +7,7 @@ use Rattle.group_table.specs.Steps.{dropped}
 use Rattle.group_table.specs.Tables.{cells_at}
 use Rattle.group_table.specs.Totals.{total}
 use Rattle.shared_agg.specs.declared.slices.Slice.{Slice}
-use Rattle.shared_agg.specs.Walk.{IsFed, IsGrown}
+use Rattle.shared_agg.specs.Fill.{IsFed, IsPartlyFed}
 
 -- the slices, and how many records were added to them
 pub record Lane : Type 0 where
@@ -85,13 +85,13 @@ IsChangedAt zero R (x ∷ xs) (y ∷ ys) = R x y × (ys ≡ xs)
 IsChangedAt (suc k) R (x ∷ xs) (y ∷ ys) = (y ≡ x) × IsChangedAt k R xs ys
 IsChangedAt k R _ _ = ⊥
 
--- a slice with its start and epoch, to whose cells some may have been added
+-- a slice with its start and epoch, to whose cells of some slots some were added
 pub record HasGrown (adds : ℕ → List Cell) (x y : Slice) : Type 0 where
   pub start : y.start ≡ x.start
   pub epoch : y.epoch ≡ x.epoch
-  pub grown : IsGrown x.table y.table adds
+  pub partly : IsPartlyFed x.table y.table adds
 
--- the same, where all were added
+-- the same, for all slots
 pub record HasGot (adds : ℕ → List Cell) (x y : Slice) : Type 0 where
   pub start : y.start ≡ x.start
   pub epoch : y.epoch ≡ x.epoch
@@ -134,6 +134,11 @@ pub record AreDropped (start : ℕ) (slots : List Bool) (old new : List Slice) :
 abbrev pub AreFed : ℕ → (ℕ → List Cell) → List Slice → List Slice → Type 0
 AreFed start adds old new = (c slot : ℕ) → slot < 512 →
     cells_from new c slot ≡ fold add_in (cells_from old c slot) (if c == start then adds slot else [])
+
+-- The same, for some slots alone.
+pub record ArePartlyFed (start : ℕ) (adds : ℕ → List Cell) (old new : List Slice) : Type 0 where
+  pub which : ℕ → Bool
+  pub fed : AreFed start (λ slot. if which slot then adds slot else []) old new
 
 -- Epochs stay: that of a slice which was there, and none is new but that of the slice that begins there.
 pub record EpochsStay (start epoch : ℕ) (old new : List Slice) : Type 0 where

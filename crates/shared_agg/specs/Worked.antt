@@ -1,5 +1,5 @@
 -- Worked rows, evaluated on the definitions alone: two records of one stream, in two slices.
-use Rattle.std.specs.Prelude.{◌≡◌, ℕ, ℤ, pos, neg_ℤ, refl, Option, Some, None, List, [], ◌∷◌, ◌++◌}
+use Rattle.std.specs.Prelude.{◌≡◌, ℕ, ℤ, pos, neg_ℤ, refl, true, false, Option, Some, None, List, [], ◌∷◌, ◌++◌}
 use Rattle.as_base.specs.declared.fragment.Cell.{Cell}
 use Rattle.as_base.specs.declared.item.Given.{Given}
 use Rattle.as_base.specs.declared.query.Col.TheVariants.{V1}
@@ -11,6 +11,8 @@ use Rattle.as_base.specs.declared.query.Plan.{Plan}
 use Rattle.as_base.specs.declared.stream.StreamId.TheVariants.{A}
 use Rattle.as_base.specs.Query.{unlimited}
 use Rattle.group_table.specs.Cells.{sums}
+use Rattle.shared_agg.specs.declared.duties.Class.{Class}
+use Rattle.shared_agg.specs.Duties.{duty_of, class_at}
 use Rattle.shared_agg.specs.Shares.{shares}
 
 -- a query of windows of 100 ticks on a, with its number
@@ -64,3 +66,15 @@ joined = refl
 
 pub unowned : both None ≡ []
 unowned = refl
+
+-- the class at a place, where slots 0 and 3 sum v1 by key, slot 1 is nobody's, and slot 2 counts all
+abbrev class_of_four : ℕ → Class
+class_of_four place = class_at (
+    duty_of (query 1 (Sum V1) group.Key) ∷ duty_of None ∷ duty_of (query 2 Count group.All) ∷ duty_of (query 3 (Sum V1) group.Key) ∷ []
+    ) place
+
+pub first_class : class_of_four 0 ≡ record { group = group.Key; column = Some V1; slots = true ∷ false ∷ false ∷ true ∷ [] }
+first_class = refl
+
+pub last_class : class_of_four 29 ≡ record { group = group.All; column = None; slots = false ∷ false ∷ true ∷ false ∷ [] }
+last_class = refl

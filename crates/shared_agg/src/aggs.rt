@@ -9,9 +9,9 @@ ghost use Rattle.changelog.specs.EpochsFor.{EpochsFor, IsKept, owned};
 ghost use Rattle.group_table.specs.Cells.{add_in, sums};
 ghost use Rattle.shared_agg.specs.Duties.{duty_of, all_slots};
 ghost use Rattle.shared_agg.specs.Shares.{shares};
-ghost use Rattle.shared_agg.specs.Slices.{is_between, AreRising, AreFed, AreDropped, EpochsStay, OthersStay, total_in};
-ghost use Rattle.shared_agg.specs.Walk.{has, due};
-ghost use Rattle.shared_agg.specs.Aggs.{lane_at, lane_of, starts_of, cells_in, epoch_in, records_of, cells_of, is_slice, AggsFor, IsNone};
+ghost use Rattle.shared_agg.specs.Slices.{is_between, AreRising, AreFed, ArePartlyFed, AreDropped, EpochsStay, OthersStay, total_in};
+ghost use Rattle.shared_agg.specs.Fill.{has, due};
+ghost use Rattle.shared_agg.specs.Aggs.{lane_at, lane_of, starts_of, cells_in, epoch_in, records_of, cells_of, is_slice, cache_at, IsCacheFor, AggsFor, HaveShares, IsNone};
 
 use crate::duties::{Duties, duty_of};
 use crate::slices::Slices;
@@ -23,13 +23,19 @@ use std::alloc::Global;
 /// How many slots there are.
 const SLOTS: u16 = 512;
 
+/// What the owners of the slots have to be told in an epoch: so a record need not ask for each owner.
+#[derive(Drop)]
+pub struct Cache {
+    epoch: u64,
+    duties: Duties,
+}
+
 /// What the records of slices add up to, by stream, slice, query slot and group. A slice is there while it has a cell.
 #[derive(Drop)]
 pub struct Aggs {
-    // What the owners of the slots have to be told, in an epoch: so a record need not ask for each owner.
-    epoch: u64,
-    duties: Duties,
-    // What is kept of each stream, in the order of the streams.
+    // For each stream, in the order of the streams, the duties in the epoch of its last record, and what is kept of it.
+    // Records of two streams may lie on both sides of a change: each turns its own cache, and not that of the other.
+    caches: [Cache; 4],
     lanes: [Slices; 4],
 }
 
@@ -67,6 +73,52 @@ fn renew_all(duties: &mut Duties, epochs: &Epochs, epoch: u64)
     }
 }
 
+// Nobody owns a slot in epoch 0.
+fn first_cache() -> Cache
+    ensures { (cs : List Change) → IsCacheFor result cs }
+{
+    Cache {
+        epoch: 0,
+        duties: Duties::new(),
+    }
+}
+
+// Has the duties be those of the owners in another epoch that was not trimmed: it costs the changes between, or all slots
+// where its own epoch was trimmed.
+fn turn_to(cache: &mut Cache, epoch: u64, epochs: &Epochs)
+    ensures { (cs : List Change) → EpochsFor epochs.now cs → IsCacheFor cache.old cs → IsKept epochs.now epoch → epoch ≤ length cs →
+        IsCacheFor cache.new cs × (cache.new.epoch ≡ epoch) }
+{
+    if cache.epoch == epoch {
+        return;
+    }
+    if cache.epoch < epochs.first() {
+        renew_all(&mut cache.duties, epochs, epoch);
+    } else {
+        let slots = epochs.slots_between(cache.epoch.min(epoch), cache.epoch.max(epoch));
+        renew_those(&mut cache.duties, slots, epochs, epoch);
+    }
+    cache.epoch = epoch;
+}
+
+// The same of the cache at a place.
+fn turn_at(caches: &mut [Cache], place: usize, epoch: u64, epochs: &Epochs)
+    requires { place < length caches.old }
+    ensures stands { (cs : List Change) → EpochsFor epochs.now cs → IsCacheFor (cache_at caches.old place) cs → IsKept epochs.now epoch →
+        epoch ≤ length cs → IsCacheFor (cache_at caches.new place) cs × ((cache_at caches.new place).epoch ≡ epoch) }
+    ensures others { (i : ℕ) → (i == place) ≡ false → cache_at caches.new i ≡ cache_at caches.old i }
+{
+    turn_to(&mut caches[place], epoch, epochs);
+}
+
+// The duties of the cache at a place.
+fn duties_at(caches: &[Cache], place: usize) -> &Duties
+    requires { place < length caches.now }
+    ensures { result.now ≡ (cache_at caches.now place).duties }
+{
+    &caches[place].duties
+}
+
 // Adds a record to a slice of the lane at a place.
 fn add_at(
     lanes: &mut [Slices],
@@ -83,6 +135,8 @@ fn add_at(
         (AreFed start (due g.now set.now duties.now) (lane_at lanes.old place).slices (lane_at lanes.new place).slices) }
     ensures epochs { EpochsStay start epoch (lane_at lanes.old place).slices (lane_at lanes.new place).slices }
     ensures others { OnErr result (OthersStay start (lane_at lanes.old place).slices (lane_at lanes.new place).slices) }
+    ensures own { OnErr result
+        (ArePartlyFed start (due g.now set.now duties.now) (lane_at lanes.old place).slices (lane_at lanes.new place).slices) }
     ensures added { (lane_at lanes.new place).added ≡ (lane_at lanes.old place).added + 1 }
     ensures lanes { (i : ℕ) → (i == place) ≡ false → lane_at lanes.new i ≡ lane_at lanes.old i }
 {
@@ -106,8 +160,7 @@ impl Aggs {
         ensures stands { (cs : List Change) → AggsFor result cs }
     {
         Aggs {
-            epoch: 0,
-            duties: Duties::new(),
+            caches: [first_cache(), first_cache(), first_cache(), first_cache()],
             lanes: [
                 Slices::new(alloc),
                 Slices::new(alloc),
@@ -117,27 +170,11 @@ impl Aggs {
         }
     }
 
-    // Has the duties be those of the owners in another epoch that was not trimmed: it costs the changes between, or all
-    // slots where its own epoch was trimmed.
-    fn turn_to(&mut self, epoch: u64, epochs: &Epochs)
-        ensures lanes { self.new.lanes ≡ self.old.lanes }
-        ensures stands { (cs : List Change) → EpochsFor epochs.now cs → AggsFor self.old cs → IsKept epochs.now epoch → epoch ≤ length cs →
-            AggsFor self.new cs × (self.new.epoch ≡ epoch) }
-    {
-        if self.epoch < epochs.first() {
-            renew_all(&mut self.duties, epochs, epoch);
-        } else {
-            let slots = epochs.slots_between(self.epoch.min(epoch), self.epoch.max(epoch));
-            renew_those(&mut self.duties, slots, epochs, epoch);
-        }
-        self.epoch = epoch;
-    }
-
     /// Adds a record of the stream to its slice that begins at `start`, in ticks: to the cell of each slot of the set whose
     /// owner in the epoch sums or counts, of the record's group there. Where there is no such slice, it is made, with the
     /// epoch, if there is such a slot; the epoch of one that is there stays. The epoch may not be trimmed, nor be after the
-    /// last. The one refusal is `NoMemory`: all other slices are as they were then, and of this one the cells of some slots
-    /// may have the record, and of others not.
+    /// last. The one refusal is `NoMemory`: all other slices are as they were then, and of this one some of the slots have
+    /// the record, and the cells of the others are as they were.
     pub fn add(
         &mut self,
         s: StreamId,
@@ -160,18 +197,15 @@ impl Aggs {
             (is_slice s start t c ≡ true) × (e ≡ epoch) }
         ensures others { OnErr result ((t : StreamId) (c slot : ℕ) → is_slice s start t c ≡ false →
             cells_in self.new t c slot ≡ cells_in self.old t c slot) }
+        ensures own { OnErr result ((cs : List Change) →
+            EpochsFor epochs.now cs → AggsFor self.old cs → IsKept epochs.now epoch → epoch ≤ length cs →
+            HaveShares self.old self.new s start epoch r.now.given set.now cs) }
         ensures epochs_err { OnErr result ((t : StreamId) (c : ℕ) → epoch_in self.new t c ≡ epoch_in self.old t c) }
     {
-        self.turn_to(epoch, epochs);
-        add_at(
-            &mut self.lanes,
-            place_of(s),
-            start,
-            epoch,
-            &r.given,
-            set,
-            &self.duties,
-        )
+        let place = place_of(s);
+        turn_at(&mut self.caches, place, epoch, epochs);
+        let duties = duties_at(&self.caches, place);
+        add_at(&mut self.lanes, place, start, epoch, &r.given, set, duties)
     }
 
     // What is kept of a stream.

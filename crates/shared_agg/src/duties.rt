@@ -1,6 +1,7 @@
-ghost use Rattle.std.specs.Prelude.{◌≡◌, ℕ, ◌<◌, ◌==◌, None, replicate, length, slice_set};
+ghost use Rattle.std.specs.Prelude.{◌≡◌, ℕ, ◌<◌, ◌==◌, false, None, IfSome, IfNone, map, replicate, length, slice_set};
+ghost use Rattle.queryset_lanes.specs.Slots.{has_slot};
 ghost use Rattle.views.specs.Groups.{value_at, group_of};
-ghost use Rattle.shared_agg.specs.Duties.{column_of, duty_in, duty_of, summand, way_of, is_by, slots_by, duty_at};
+ghost use Rattle.shared_agg.specs.Duties.{duty_in, duty_of, summand, way_of, number_of, is_of, marked, class_of, class_at, kinds};
 
 use as_base::{Col, Given, Group, Kind, Plan};
 use queryset_lanes::QuerySet;
@@ -14,29 +15,38 @@ pub struct Duty {
     pub column: Option<Col>,
 }
 
-/// The duties of 512 slots, and for each way to group the set of the slots that group so: contracts see for each slot
-/// its duty, or `None`. No call takes memory.
+/// The slots whose owners have to be told the same: the group, and the value of a column.
+#[derive(Clone, Copy)]
+pub struct Class {
+    pub group: Group,
+    // The column that is summed; none for a count.
+    pub column: Option<Col>,
+    pub slots: QuerySet,
+}
+
+/// How many classes there are: six ways to group, each with one of four columns or none.
+pub const CLASSES: usize = 30;
+
+/// The duties of 512 slots, and the slots class by class: contracts see for each slot its duty, or `None`. No call takes
+/// memory.
 #[derive(Drop)]
 pub struct Duties {
     duties: [Option<Duty>; 512],
-    by_key: QuerySet,
-    by_v1: QuerySet,
-    by_v2: QuerySet,
-    by_v3: QuerySet,
-    by_v4: QuerySet,
-    by_all: QuerySet,
+    classes: [Class; CLASSES],
+    // Whether a class has slots: apart from the classes, most of which have none, so that a record looks at little memory.
+    used: [bool; CLASSES],
 }
 
 impl Model for Duties {
     ghost use Rattle.std.specs.Prelude.{List, Option};
     ghost use Rattle.shared_agg.specs.declared.duties.Duty.{Duty};
-    ghost use Rattle.shared_agg.specs.Duties.{AreSets};
+    ghost use Rattle.shared_agg.specs.Duties.{AreClasses};
 
     ghost Value = { List (Option Duty) };
 
     ghost view = { λ d. d.duties };
 
-    ghost invariant = { λ d. AreSets d.duties d.by_key d.by_v1 d.by_v2 d.by_v3 d.by_v4 d.by_all };
+    ghost invariant = { λ d. AreClasses d.duties d.classes d.used };
 }
 
 // The value of the column.
@@ -113,32 +123,112 @@ fn way_of(by: Group) -> u8
     }
 }
 
-// Whether the duty groups so.
-fn is_by(by: Group, duty: Option<Duty>) -> bool
-    ensures { result ≡ is_by by duty }
+// The number of a column that is summed; 4 where none is.
+fn number_of(column: Option<Col>) -> u8
+    ensures { result ≡ number_of column }
+{
+    match column {
+        Some(Col::V1) => 0,
+        Some(Col::V2) => 1,
+        Some(Col::V3) => 2,
+        Some(Col::V4) => 3,
+        None => 4,
+    }
+}
+
+// Whether the duty is of this group and column.
+fn is_of(group: Group, column: Option<Col>, duty: Option<Duty>) -> bool
+    ensures { result ≡ is_of group column duty }
 {
     match duty {
-        Some(duty) => way_of(duty.group) == way_of(by),
+        Some(duty) => {
+            way_of(duty.group) == way_of(group) && number_of(duty.column) == number_of(column)
+        }
         None => false,
     }
 }
 
-// Puts a slot into the set, or takes it out, by whether its duty groups so.
-fn mark(set: &mut QuerySet, by: Group, slot: u16, duty: Option<Duty>)
+// The class with the slot in it or not, by whether its duty is of the class.
+fn marked(class: Class, slot: u16, duty: Option<Duty>) -> Class
     requires { slot < 512 }
-    ensures { set.new ≡ slice_set set.old slot (is_by by duty) }
+    ensures { result ≡ marked slot duty class }
 {
-    *set = set.with(slot, is_by(by, duty));
+    let mine = is_of(class.group, class.column, duty);
+    Class {
+        group: class.group,
+        column: class.column,
+        slots: class.slots.with(slot, mine),
+    }
 }
 
-// The column that is summed; none for a count, or where there is no duty.
-fn column_of(duty: Option<Duty>) -> Option<Col>
-    ensures { result ≡ column_of duty }
+// Puts a slot with this duty into its class, and takes it out of all others.
+fn mark_all(classes: &mut [Class], slot: u16, duty: Option<Duty>)
+    requires { slot < 512 }
+    ensures { classes.new ≡ map (marked slot duty) classes.old }
 {
-    match duty {
-        Some(duty) => duty.column,
-        None => None,
+    for class in classes.iter_mut() {
+        *class = marked(*class, slot, duty);
     }
+}
+
+// Which of the classes have slots.
+fn used_of(classes: &[Class; CLASSES]) -> [bool; CLASSES]
+    ensures { result ≡ map (λ class. has_slot class.slots) classes.now }
+{
+    let mut used = [false; CLASSES];
+    for place in 0..CLASSES {
+        used[place] = !classes[place].slots.is_empty();
+    }
+    used
+}
+
+// A class without slots.
+fn empty(group: Group, column: Option<Col>) -> Class
+    ensures { result ≡ class_of (replicate 512 None) (record { group = group; column = column }) }
+{
+    Class {
+        group,
+        column,
+        slots: QuerySet::none(),
+    }
+}
+
+// All classes, without slots.
+fn all_empty() -> [Class; CLASSES]
+    ensures { result ≡ map (class_of (replicate 512 None)) kinds }
+{
+    [
+        empty(Group::Key, Some(Col::V1)),
+        empty(Group::Key, Some(Col::V2)),
+        empty(Group::Key, Some(Col::V3)),
+        empty(Group::Key, Some(Col::V4)),
+        empty(Group::Key, None),
+        empty(Group::Col(Col::V1), Some(Col::V1)),
+        empty(Group::Col(Col::V1), Some(Col::V2)),
+        empty(Group::Col(Col::V1), Some(Col::V3)),
+        empty(Group::Col(Col::V1), Some(Col::V4)),
+        empty(Group::Col(Col::V1), None),
+        empty(Group::Col(Col::V2), Some(Col::V1)),
+        empty(Group::Col(Col::V2), Some(Col::V2)),
+        empty(Group::Col(Col::V2), Some(Col::V3)),
+        empty(Group::Col(Col::V2), Some(Col::V4)),
+        empty(Group::Col(Col::V2), None),
+        empty(Group::Col(Col::V3), Some(Col::V1)),
+        empty(Group::Col(Col::V3), Some(Col::V2)),
+        empty(Group::Col(Col::V3), Some(Col::V3)),
+        empty(Group::Col(Col::V3), Some(Col::V4)),
+        empty(Group::Col(Col::V3), None),
+        empty(Group::Col(Col::V4), Some(Col::V1)),
+        empty(Group::Col(Col::V4), Some(Col::V2)),
+        empty(Group::Col(Col::V4), Some(Col::V3)),
+        empty(Group::Col(Col::V4), Some(Col::V4)),
+        empty(Group::Col(Col::V4), None),
+        empty(Group::All, Some(Col::V1)),
+        empty(Group::All, Some(Col::V2)),
+        empty(Group::All, Some(Col::V3)),
+        empty(Group::All, Some(Col::V4)),
+        empty(Group::All, None),
+    ]
 }
 
 impl Duties {
@@ -148,12 +238,8 @@ impl Duties {
     {
         Duties {
             duties: [None; 512],
-            by_key: QuerySet::none(),
-            by_v1: QuerySet::none(),
-            by_v2: QuerySet::none(),
-            by_v3: QuerySet::none(),
-            by_v4: QuerySet::none(),
-            by_all: QuerySet::none(),
+            classes: all_empty(),
+            used: [false; CLASSES],
         }
     }
 
@@ -164,34 +250,20 @@ impl Duties {
         ensures value { self.new ≡ slice_set self.old slot duty }
     {
         self.duties[usize::from(slot)] = duty;
-        mark(&mut self.by_key, Group::Key, slot, duty);
-        mark(&mut self.by_v1, Group::Col(Col::V1), slot, duty);
-        mark(&mut self.by_v2, Group::Col(Col::V2), slot, duty);
-        mark(&mut self.by_v3, Group::Col(Col::V3), slot, duty);
-        mark(&mut self.by_v4, Group::Col(Col::V4), slot, duty);
-        mark(&mut self.by_all, Group::All, slot, duty);
+        mark_all(&mut self.classes, slot, duty);
+        self.used = used_of(&self.classes);
     }
 
-    /// The column that is summed for a slot: none for a count, or without a duty.
-    pub fn column(&self, slot: u16) -> Option<Col>
-        requires { slot < 512 }
-        ensures { result ≡ column_of (duty_at self.now slot) }
+    /// The class at a place, if it has slots.
+    pub fn class(&self, place: usize) -> Option<&Class>
+        requires { place < 30 }
+        ensures some { IfSome result (λ class. class.now ≡ class_at self.now place) }
+        ensures none { IfNone result (has_slot (class_at self.now place).slots ≡ false) }
     {
-        column_of(self.duties[usize::from(slot)])
-    }
-
-    /// The slots whose owners group so.
-    pub fn slots_by(&self, by: Group) -> QuerySet
-        ensures slots { length self.now ≡ 512 }
-        ensures value { result ≡ slots_by by self.now }
-    {
-        match by {
-            Group::Key => self.by_key,
-            Group::Col(Col::V1) => self.by_v1,
-            Group::Col(Col::V2) => self.by_v2,
-            Group::Col(Col::V3) => self.by_v3,
-            Group::Col(Col::V4) => self.by_v4,
-            Group::All => self.by_all,
+        if self.used[place] {
+            Some(&self.classes[place])
+        } else {
+            None
         }
     }
 }

@@ -3,9 +3,9 @@
 
 mod aggs;
 mod duties;
+mod fill;
 mod laws;
 mod slices;
-mod walk;
 
 pub use aggs::Aggs;
 pub use laws::appended_changes_alter_no_duty;

@@ -1,14 +1,15 @@
 ghost use Rattle.std.specs.Prelude.{◌≡◌, ℕ, ℤ, ◌+◌, ◌≤◌, ◌<◌, ◌^◌, ◌-◌, false, min, length, IfOk, OnErr, OnOk, if◌then◌else◌, ◌==◌, [], slice_index_or};
-ghost use Rattle.group_table.specs.Cells.{sums};
+ghost use Rattle.std.specs.List.{AllByRecursion};
+ghost use Rattle.group_table.specs.Cells.{sums, IsSound};
 ghost use Rattle.group_table.specs.Steps.{dropped};
 ghost use Rattle.group_table.specs.Tables.{cells_at};
-ghost use Rattle.shared_agg.specs.Walk.{due};
-ghost use Rattle.shared_agg.specs.Slices.{Lane, lane, starts, cells_from, epoch_from, count_in, total_in, begun_before, sums_between, cells_within, StartsRise, IsLane, IsChangedAt, HasGrown, HasGot, HasLost, IsSlice, IsPutIn, IsLetGo, AreFed, AreDropped, EpochsStay, OthersStay};
+ghost use Rattle.shared_agg.specs.Fill.{due};
+ghost use Rattle.shared_agg.specs.Slices.{Lane, lane, starts, cells_from, epoch_from, count_in, total_in, begun_before, sums_between, cells_within, StartsRise, IsLane, IsChangedAt, HasGrown, HasGot, HasLost, IsSlice, IsPutIn, IsLetGo, AreFed, ArePartlyFed, AreDropped, EpochsStay, OthersStay};
 
 use crate::duties::Duties;
-use crate::walk::fill;
-use as_base::{Cells, Given, NoMemory};
-use group_table::Table;
+use crate::fill::fill;
+use as_base::{Cell, Cells, Given, NoMemory};
+use group_table::{Table, add_up};
 use queryset_lanes::QuerySet;
 use std::alloc::Global;
 use std::collections::VecDeque;
@@ -22,12 +23,17 @@ pub struct Slice {
     pub table: Table,
 }
 
+/// How many tables of slices that went are kept for new ones.
+const SPARES_MAX: usize = 64;
+
 /// The slices of one stream that have a cell, by rising start, and how many records were added to them.
 #[derive(Drop)]
 pub struct Slices {
     alloc: Global,
     // Mostly the first slice goes and the last one comes: neither moves the others.
     slices: VecDeque<Slice>,
+    // The tables of slices that went, for new ones.
+    spares: Vec<Table>,
     added: u64,
 }
 
@@ -77,14 +83,42 @@ fn fill_at(
     requires within { place < length slices.old.items }
     requires few { (slot : ℕ) (group : ℤ) → count_in slices.old.items slot group < 2 ^ 62 }
     ensures fed { OnOk result (IsChangedAt place (HasGot (due g.now set.now duties.now)) slices.old.items slices.new.items) }
-    ensures grown { IsChangedAt place (HasGrown (due g.now set.now duties.now)) slices.old.items slices.new.items }
+    ensures partly { IsChangedAt place (HasGrown (due g.now set.now duties.now)) slices.old.items slices.new.items }
 {
     fill(&mut slices[place].table, g, set, duties)
+}
+
+// Makes the room in which `keep` keeps tables.
+fn make_room(spares: &mut Vec<Table>) -> Result<(), NoMemory> {
+    spares.reserve(SPARES_MAX.saturating_sub(spares.len()))?;
+    Ok(())
+}
+
+// An empty table: a spare one where there is one.
+fn empty_table(alloc: Global, spares: &mut Vec<Table>) -> Table
+    ensures { (slot : ℕ) → cells_at result slot ≡ [] }
+{
+    match spares.pop() {
+        Some(mut table) => {
+            table.clear();
+            table
+        }
+        None => Table::new(alloc),
+    }
+}
+
+// Keeps a table that no slice has any more, without memory, unless it is large or there are enough. Whoever takes it
+// clears it.
+fn keep(spares: &mut Vec<Table>, table: Table) {
+    if spares.len() < SPARES_MAX && spares.len() < spares.capacity() && table.is_small() {
+        let _ = spares.push(table);
+    }
 }
 
 // A new slice of one record.
 fn new_slice(
     alloc: Global,
+    spares: &mut Vec<Table>,
     start: u64,
     epoch: u64,
     g: &Given,
@@ -93,7 +127,8 @@ fn new_slice(
 ) -> Result<Slice, NoMemory>
     ensures { IfOk result (IsSlice start epoch (due g.now set.now duties.now)) }
 {
-    let mut table = Table::new(alloc);
+    make_room(spares)?;
+    let mut table = empty_table(alloc, spares);
     fill(&mut table, g, set, duties)?;
     Ok(Slice {
         start,
@@ -103,12 +138,18 @@ fn new_slice(
 }
 
 // Puts a slice before the one at a place, if it has a cell.
-fn insert(slices: &mut VecDeque<Slice>, place: usize, slice: Slice) -> Result<(), NoMemory>
+fn insert(
+    slices: &mut VecDeque<Slice>,
+    spares: &mut Vec<Table>,
+    place: usize,
+    slice: Slice,
+) -> Result<(), NoMemory>
     requires { place ≤ length slices.old.items }
     ensures ok { OnOk result (IsPutIn place slice slices.old.items slices.new.items) }
     ensures err { OnErr result (slices.new.items ≡ slices.old.items) }
 {
     if slice.table.len() == 0 {
+        keep(spares, slice.table);
         return Ok(());
     }
     slices.insert(place, slice)?;
@@ -119,6 +160,7 @@ fn insert(slices: &mut VecDeque<Slice>, place: usize, slice: Slice) -> Result<()
 // has a duty.
 fn put(
     slices: &mut VecDeque<Slice>,
+    spares: &mut Vec<Table>,
     alloc: Global,
     start: u64,
     epoch: u64,
@@ -131,14 +173,15 @@ fn put(
     ensures fed { OnOk result (AreFed start (due g.now set.now duties.now) slices.old.items slices.new.items) }
     ensures epochs { EpochsStay start epoch slices.old.items slices.new.items }
     ensures others { OnErr result (OthersStay start slices.old.items slices.new.items) }
+    ensures own { OnErr result (ArePartlyFed start (due g.now set.now duties.now) slices.old.items slices.new.items) }
     ensures lane { (n : ℕ) → n < 2 ^ 62 → IsLane (lane slices.old.items n) → IsLane (lane slices.new.items (n + 1)) }
 {
     let place = place_for(slices, start);
     if place < slices.len() && slices[place].start == start {
         return fill_at(slices, place, g, set, duties);
     }
-    let slice = new_slice(alloc, start, epoch, g, set, duties)?;
-    insert(slices, place, slice)
+    let slice = new_slice(alloc, spares, start, epoch, g, set, duties)?;
+    insert(slices, spares, place, slice)
 }
 
 // Takes the cells of some slots out of the slice at a place.
@@ -149,18 +192,21 @@ fn drop_at(slices: &mut VecDeque<Slice>, place: usize, slots: &QuerySet)
     slices[place].table.drop_slots(slots);
 }
 
-// Lets the slice at a place go, if it has no cell.
-fn let_go(slices: &mut VecDeque<Slice>, place: usize)
+// Lets the slice at a place go, if it has no cell, and keeps its table.
+fn let_go(slices: &mut VecDeque<Slice>, spares: &mut Vec<Table>, place: usize)
     requires { place < length slices.old.items }
     ensures { IsLetGo place slices.old.items slices.new.items }
 {
-    if slices[place].table.len() == 0 {
-        slices.remove(place);
+    if slices[place].table.len() != 0 {
+        return;
+    }
+    if let Some(slice) = slices.remove(place) {
+        keep(spares, slice.table);
     }
 }
 
 // Takes the cells of some slots out of the slice that begins at `start`, and the slice where it has no cell then.
-fn take_out(slices: &mut VecDeque<Slice>, start: u64, slots: &QuerySet)
+fn take_out(slices: &mut VecDeque<Slice>, spares: &mut Vec<Table>, start: u64, slots: &QuerySet)
     requires rise { StartsRise slices.old.items }
     ensures dropped { AreDropped start slots.now slices.old.items slices.new.items }
     ensures lane { (n : ℕ) → IsLane (lane slices.old.items n) → IsLane (lane slices.new.items n) }
@@ -168,32 +214,31 @@ fn take_out(slices: &mut VecDeque<Slice>, start: u64, slots: &QuerySet)
     let place = place_for(slices, start);
     if place < slices.len() && slices[place].start == start {
         drop_at(slices, place, slots);
-        let_go(slices, place);
+        let_go(slices, spares, place);
     }
 }
 
-// What the cells of a slot add up to in the slices from one place on and before another.
-fn merge(
+// The cells of a slot in the slices from one place on and before another.
+fn gather(
     slices: &VecDeque<Slice>,
     first: usize,
     past: usize,
     slot: u16,
     alloc: Global,
-) -> Result<Table, NoMemory>
-    requires slot { slot < 512 }
+) -> Result<Vec<Cell>, NoMemory>
     requires order { first ≤ past }
     requires within { past ≤ length slices.now.items }
-    requires few { (group : ℤ) → count_in slices.now.items slot group ≤ 2 ^ 62 }
-    ensures { IfOk result (λ table. cells_at table slot ≡ sums (cells_within first past slot slices.now.items)) }
+    ensures cells { IfOk result (λ cells. sums cells.items ≡ sums (cells_within first past slot slices.now.items)) }
+    ensures sound { IfOk result (λ cells. AllByRecursion IsSound cells.items) }
 {
-    let mut merged = Table::new(alloc);
+    let mut cells = Vec::new(alloc);
     for place in first..past {
-        merged.merge_slot(&slices[place].table, slot)?;
+        slices[place].table.append_slot(slot, &mut cells)?;
     }
-    Ok(merged)
+    Ok(cells)
 }
 
-// The same, by rising group. The table of a lone slice is not copied.
+// What they add up to, by rising group.
 fn sorted_between(
     slices: &VecDeque<Slice>,
     first: usize,
@@ -201,7 +246,6 @@ fn sorted_between(
     slot: u16,
     alloc: Global,
 ) -> Result<Cells, NoMemory>
-    requires slot { slot < 512 }
     requires within { past ≤ length slices.now.items }
     requires few { (group : ℤ) → count_in slices.now.items slot group ≤ 2 ^ 62 }
     ensures { IfOk result (λ cells. cells ≡ sums (cells_within first past slot slices.now.items)) }
@@ -209,10 +253,8 @@ fn sorted_between(
     if past <= first {
         return Ok(Cells::from_vec(Vec::new(alloc)));
     }
-    if past - first == 1 {
-        return slices[first].table.sorted_rows(slot);
-    }
-    merge(slices, first, past, slot, alloc)?.sorted_rows(slot)
+    let cells = gather(slices, first, past, slot, alloc)?;
+    Ok(add_up(cells))
 }
 
 // The places of the slices, whose starts rise, that begin at `from` or later, and before `to`: the first of them, and the
@@ -234,7 +276,6 @@ fn window(
     to: u64,
     alloc: Global,
 ) -> Result<Cells, NoMemory>
-    requires slot { slot < 512 }
     requires rise { StartsRise slices.now.items }
     requires few { (group : ℤ) → count_in slices.now.items slot group ≤ 2 ^ 62 }
     ensures { IfOk result (λ cells. cells ≡ sums_between from to slot slices.now.items) }
@@ -262,13 +303,14 @@ impl Slices {
         Slices {
             alloc,
             slices: VecDeque::new(alloc),
+            spares: Vec::new(alloc),
             added: 0,
         }
     }
 
     /// Adds a record, for those slots of the set that have a duty, to the slice that begins at `start`. Where there is
     /// none, it is made, with the epoch; the epoch of one that is there stays. The one refusal is `NoMemory`: all other
-    /// slices are as they were then, and of this one some cells may be added to.
+    /// slices are as they were then, and of this one some slots have the record.
     pub fn add(
         &mut self,
         start: u64,
@@ -281,10 +323,20 @@ impl Slices {
         ensures fed { OnOk result (AreFed start (due g.now set.now duties.now) self.old.slices self.new.slices) }
         ensures epochs { EpochsStay start epoch self.old.slices self.new.slices }
         ensures others { OnErr result (OthersStay start self.old.slices self.new.slices) }
+        ensures own { OnErr result (ArePartlyFed start (due g.now set.now duties.now) self.old.slices self.new.slices) }
         ensures added { self.new.added ≡ self.old.added + 1 }
     {
         self.added += 1;
-        put(&mut self.slices, self.alloc, start, epoch, g, set, duties)
+        put(
+            &mut self.slices,
+            &mut self.spares,
+            self.alloc,
+            start,
+            epoch,
+            g,
+            set,
+            duties,
+        )
     }
 
     /// Takes the cells of some slots out of the slice that begins at `start`. The slice goes where nothing is left in it.
@@ -292,13 +344,12 @@ impl Slices {
         ensures dropped { AreDropped start slots.now self.old.slices self.new.slices }
         ensures added { self.new.added ≡ self.old.added }
     {
-        take_out(&mut self.slices, start, slots);
+        take_out(&mut self.slices, &mut self.spares, start, slots);
     }
 
     /// What the cells of a slot add up to, by rising group, in the slices that begin at `from` or later, and before `to`.
     /// The one refusal is `NoMemory`.
     pub fn window(&self, slot: u16, from: u64, to: u64) -> Result<Cells, NoMemory>
-        requires { slot < 512 }
         ensures { IfOk result (λ cells. cells ≡ sums_between from to slot self.now.slices) }
     {
         window(&self.slices, slot, from, to, self.alloc)

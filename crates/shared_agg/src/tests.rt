@@ -109,6 +109,18 @@ fn slices_add_up_and_are_dropped(rt: HostRuntime) -> Result<(), Fail> {
 }
 
 #[test]
+fn a_new_slice_has_its_own_records_alone(rt: HostRuntime) -> Result<(), Fail> {
+    let epochs = row(rt.alloc())?;
+    let both = QuerySet::none().with(0, true).with(1, true);
+    let mut aggs = Aggs::new(rt.alloc());
+    aggs.add(StreamId::A, 0, 2, &record(5, 7), &both, &epochs)?;
+    aggs.drop_slice(StreamId::A, 0, &both);
+    aggs.add(StreamId::A, 11, 2, &record(9, -2), &both, &epochs)?;
+    assert!(rt; are(&aggs, 0, 0, 100, &[cell(9, -2, 1)]));
+    Ok(())
+}
+
+#[test]
 fn duties_are_those_of_the_epoch(rt: HostRuntime) -> Result<(), Fail> {
     let epochs = row(rt.alloc())?;
     let one = QuerySet::none().with(1, true);

@@ -1,3 +1,1 @@
 pub mod PlacedLaws
-pub mod OrderLaws
-pub mod PutLaws

@@ -2,9 +2,11 @@
 use Rattle.std.specs.Prelude.{◌≡◌, ℕ, pos, true, false, refl, Bool, Some, None, List, [], ◌∷◌, replicate}
 use Rattle.as_base.specs.declared.item.Record.{Record}
 use Rattle.as_base.specs.declared.stream.StreamId.TheVariants.{B}
-use Rattle.slice_store.specs.declared.placements.Slice.{Slice}
+use Rattle.by_start.specs.declared.Begun.{Begun}
+use Rattle.by_start.specs.Order.{begun, range_of, without, with_begun}
+use Rattle.slice_store.specs.declared.placements.Held.{Held}
 use Rattle.slice_store.specs.Placed.{Placed, placed, may_go}
-use Rattle.slice_store.specs.Slices.{slice, slice_of, placed_at, epoch_at, range_of, without, put_placed}
+use Rattle.slice_store.specs.Slices.{held, slice_of, placed_at, epoch_at, with_placed}
 
 -- a record with this number and time
 abbrev at : ℕ → ℕ → Record
@@ -33,10 +35,13 @@ abbrev fourth : Placed
 fourth = placed (at 4 6) two
 
 -- two records in the slice that begins at 0, which keeps its epoch, and one in that which begins at 11
-abbrev row : List Slice
-row = put_placed 11 2 third (put_placed 0 9 second (put_placed 0 1 first []))
+abbrev zeroth : Held
+zeroth = with_placed 9 second (Some (with_placed 1 first None))
 
-pub row_is : row ≡ slice 0 1 (first ∷ second ∷ []) ∷ slice 11 2 (third ∷ []) ∷ []
+abbrev row : List (Begun Held)
+row = with_begun 11 (with_placed 2 third None) (with_begun 0 zeroth [])
+
+pub row_is : row ≡ begun 0 (held 1 (first ∷ second ∷ [])) ∷ begun 11 (held 2 (third ∷ [])) ∷ []
 row_is = refl
 
 pub placed_at_start : placed_at 0 row ≡ first ∷ second ∷ []
@@ -60,8 +65,8 @@ from_eleven = refl
 pub from_twelve : range_of 12 13 row ≡ (0, 0)
 from_twelve = refl
 
--- a record that comes later stands between
-pub between : put_placed 5 3 fourth row ≡ slice 0 1 (first ∷ second ∷ []) ∷ slice 5 3 (fourth ∷ []) ∷ slice 11 2 (third ∷ []) ∷ []
+-- a slice that comes later stands between
+pub between : with_begun 5 (with_placed 3 fourth None) row ≡ begun 0 zeroth ∷ begun 5 (held 3 (fourth ∷ [])) ∷ begun 11 (held 2 (third ∷ [])) ∷ []
 between = refl
 
 -- a window waits for the first record, whatever its time
@@ -75,5 +80,5 @@ selection_waits = refl
 pub selection_is_done : may_go none two 5 (slice_of row 0).placed ≡ true
 selection_is_done = refl
 
-pub first_gone : without 0 row ≡ slice 11 2 (third ∷ []) ∷ []
+pub first_gone : without 0 row ≡ begun 11 (held 2 (third ∷ [])) ∷ []
 first_gone = refl

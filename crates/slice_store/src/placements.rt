@@ -8,10 +8,9 @@ use queryset_lanes::QuerySet;
 use std::alloc::Global;
 use std::marker::Model;
 
-/// A slice: when it begins, in ticks, its epoch, and what was placed in it.
+/// What a slice holds: its epoch, and what was placed in it.
 #[derive(Drop)]
-pub struct Slice {
-    pub start: u64,
+pub struct Held {
     pub epoch: u64,
     pub placed: Placements,
 }

@@ -1,12 +1,13 @@
-ghost use Rattle.std.specs.Prelude.{◌≡◌, ℕ, ◌≤◌, ◌<◌, ◌==◌, ◌↔◌, ◌&&◌, if◌then◌else◌, Some, None, unwrap_or, [], ◌++◌, ◌∷◌, length, slice_set, IfOk, OnErr, OnOk};
+ghost use Rattle.std.specs.Prelude.{◌≡◌, ℕ, ◌≤◌, ◌<◌, ◌==◌, ◌↔◌, ◌&&◌, if◌then◌else◌, Some, None, unwrap_or, [], ◌++◌, ◌∷◌, length, IfOk, OnErr, OnOk};
+ghost use Rattle.by_start.specs.Order.{look, start_at, thing_at, range_of, without};
 ghost use Rattle.slice_store.specs.Placed.{placed, records_of, sets_of, may_go};
-ghost use Rattle.slice_store.specs.Slices.{store, slice, slice_of, placed_at, epoch_at, StartsRise, AreOrderly, begun_before, range_of, without, with_placed, put_placed};
+ghost use Rattle.slice_store.specs.Slices.{store, slice_of, placed_at, epoch_at, AreOrderly, AreFilled, held, with_placed};
 
-use crate::placements::{Placements, Slice};
+use crate::placements::{Held, Placements};
 use as_base::{NoMemory, Record, StreamId};
+use by_start::ByStart;
 use queryset_lanes::QuerySet;
 use std::alloc::Global;
-use std::collections::VecDeque;
 use std::marker::Model;
 
 /// How many lists of evicted slices are kept for new ones.
@@ -19,55 +20,19 @@ const SPARES_MAX: usize = 64;
 pub struct Slices {
     alloc: Global,
     stream: StreamId,
-    // Mostly the first slice goes and the last one comes: neither moves the others.
-    slices: VecDeque<Slice>,
+    slices: ByStart<Held>,
     // The lists of evicted slices, for new ones.
     spares: Vec<Placements>,
 }
 
 impl Model for Slices {
-    ghost use Rattle.slice_store.specs.Slices.{Store, store, AreOrderly};
+    ghost use Rattle.slice_store.specs.Slices.{Store, store, AreFilled};
 
     ghost Value = { Store };
 
-    ghost view = { λ s. store s.stream s.slices.items };
+    ghost view = { λ s. store s.stream s.slices };
 
-    ghost invariant = { λ s. AreOrderly s.slices.items };
-}
-
-// How many of the slices, whose starts rise, begin before the time.
-fn count_before(slices: &VecDeque<Slice>, time: u64) -> usize
-    requires { StartsRise slices.now.items }
-    ensures count { result ≡ begun_before time slices.now.items }
-    ensures bound { result ≤ length slices.now.items }
-{
-    slices.partition_point(|slice| slice.start < time)
-}
-
-// The same, asked mostly for the start of the last slice, or of one after it.
-fn place_for(slices: &VecDeque<Slice>, start: u64) -> usize
-    requires { StartsRise slices.now.items }
-    ensures count { result ≡ begun_before start slices.now.items }
-    ensures bound { result ≤ length slices.now.items }
-{
-    let count = slices.len();
-    if count == 0 || slices[count - 1].start < start {
-        return count;
-    }
-    if slices[count - 1].start == start {
-        return count - 1;
-    }
-    count_before(slices, start)
-}
-
-// The places of the slices, whose starts rise, that begin at `from` or later, and before `to`.
-fn places_between(slices: &VecDeque<Slice>, from: u64, to: u64) -> (usize, usize)
-    requires { StartsRise slices.now.items }
-    ensures { result ≡ range_of from to slices.now.items }
-{
-    let first = count_before(slices, from);
-    let past = count_before(slices, to);
-    if first < past { (first, past) } else { (0, 0) }
+    ghost invariant = { λ s. AreFilled s.slices };
 }
 
 // Makes the room in which `keep` keeps lists.
@@ -101,18 +66,16 @@ fn keep(spares: &mut Vec<Placements>, lists: Placements) {
 fn new_slice(
     alloc: Global,
     spares: &mut Vec<Placements>,
-    start: u64,
     epoch: u64,
     r: Record,
     set: QuerySet,
-) -> Result<Slice, NoMemory>
-    ensures { IfOk result (λ made. made ≡ slice start epoch (placed r set ∷ [])) }
+) -> Result<Held, NoMemory>
+    ensures { IfOk result (λ made. made ≡ with_placed epoch (placed r set) None) }
 {
     make_room(spares)?;
     let mut lists = empty_lists(alloc, spares);
     lists.push(r, set)?;
-    Ok(Slice {
-        start,
+    Ok(Held {
         epoch,
         placed: lists,
     })
@@ -120,50 +83,39 @@ fn new_slice(
 
 // Places a record in the slice at a place.
 fn place_within(
-    slices: &mut VecDeque<Slice>,
+    slices: &mut ByStart<Held>,
     place: usize,
     r: Record,
     set: QuerySet,
 ) -> Result<(), NoMemory>
-    requires { place < length slices.old.items }
-    ensures ok { OnOk result (slices.new.items ≡
-        slice_set slices.old.items place (with_placed (slice_of slices.old.items place) (placed r set))) }
-    ensures err { OnErr result (slices.new.items ≡ slices.old.items) }
+    requires { place < length slices.old }
+    ensures ok { OnOk result ((epoch c : ℕ) → look c slices.new ≡
+        (if c == start_at place slices.old then Some (with_placed epoch (placed r set) (thing_at place slices.old))
+        else look c slices.old)) }
+    ensures err { OnErr result (slices.new ≡ slices.old) }
 {
-    slices[place].placed.push(r, set)
+    slices.thing_mut(place).placed.push(r, set)
 }
 
 // Places a record in the slice that begins at `start`, which is made where it is not there yet.
 fn put(
     alloc: Global,
-    slices: &mut VecDeque<Slice>,
+    slices: &mut ByStart<Held>,
     spares: &mut Vec<Placements>,
     start: u64,
     epoch: u64,
     r: Record,
     set: QuerySet,
 ) -> Result<(), NoMemory>
-    requires { StartsRise slices.old.items }
-    ensures ok { OnOk result (slices.new.items ≡ put_placed start epoch (placed r set) slices.old.items) }
-    ensures err { OnErr result (slices.new.items ≡ slices.old.items) }
+    ensures ok { OnOk result ((c : ℕ) → look c slices.new ≡
+        (if c == start then Some (with_placed epoch (placed r set) (look start slices.old)) else look c slices.old)) }
+    ensures err { OnErr result (slices.new ≡ slices.old) }
 {
-    let place = place_for(slices, start);
-    if place < slices.len() && slices[place].start == start {
+    if let Some(place) = slices.find(start) {
         return place_within(slices, place, r, set);
     }
-    let slice = new_slice(alloc, spares, start, epoch, r, set)?;
-    slices.insert(place, slice)?;
-    Ok(())
-}
-
-// Lets the slice at a place go, and keeps its lists.
-fn let_go(slices: &mut VecDeque<Slice>, spares: &mut Vec<Placements>, place: usize)
-    requires { place < length slices.old.items }
-    ensures { slices.new.items ≡ without place slices.old.items }
-{
-    if let Some(slice) = slices.remove(place) {
-        keep(spares, slice.placed);
-    }
+    let slice = new_slice(alloc, spares, epoch, r, set)?;
+    slices.insert(start, slice)
 }
 
 impl Slices {
@@ -174,7 +126,7 @@ impl Slices {
         Slices {
             alloc,
             stream: s,
-            slices: VecDeque::new(alloc),
+            slices: ByStart::new(alloc),
             spares: Vec::new(alloc),
         }
     }
@@ -211,7 +163,8 @@ impl Slices {
             epoch,
             r,
             set,
-        )
+        )?;
+        Ok(())
     }
 
     /// How many slices there are.
@@ -227,7 +180,7 @@ impl Slices {
         requires { i < length self.now.slices }
         ensures { result ≡ (slice_of self.now.slices i).start }
     {
-        self.slices[i].start
+        self.slices.start(i)
     }
 
     /// The epoch of slice `i`.
@@ -235,7 +188,7 @@ impl Slices {
         requires { i < length self.now.slices }
         ensures { result ≡ (slice_of self.now.slices i).epoch }
     {
-        self.slices[i].epoch
+        self.slices.thing(i).epoch
     }
 
     /// The records of slice `i`, in order of placing; never none.
@@ -243,7 +196,7 @@ impl Slices {
         requires { i < length self.now.slices }
         ensures { result.now ≡ records_of (slice_of self.now.slices i).placed }
     {
-        self.slices[i].placed.records()
+        self.slices.thing(i).placed.records()
     }
 
     /// The sets of the records of slice `i`, each at the place of its record.
@@ -251,7 +204,7 @@ impl Slices {
         requires { i < length self.now.slices }
         ensures { result.now ≡ sets_of (slice_of self.now.slices i).placed }
     {
-        self.slices[i].placed.sets()
+        self.slices.thing(i).placed.sets()
     }
 
     /// The places of the slices that begin at `from` or later, and before `to`: the first of them, and the one after the
@@ -261,7 +214,7 @@ impl Slices {
         ensures places { (i : ℕ) → i < length self.now.slices →
             ((result.0 ≤ i) × (i < result.1)) ↔ ((from ≤ (slice_of self.now.slices i).start) × ((slice_of self.now.slices i).start < to)) }
     {
-        places_between(&self.slices, from, to)
+        self.slices.within(from, to)
     }
 
     /// Lets slice `i` go, unless somebody waits for one of its records: a window, where a set meets the windows; or a
@@ -276,10 +229,11 @@ impl Slices {
         ensures epochs { (c : ℕ) → epoch_at c self.new.slices ≡
             (if result && (c == (slice_of self.old.slices i).start) then None else epoch_at c self.old.slices) }
     {
-        if !self.slices[i].placed.may_go(windows, selects, wm) {
+        if !self.slices.thing(i).placed.may_go(windows, selects, wm) {
             return false;
         }
-        let_go(&mut self.slices, &mut self.spares, i);
+        let slice = self.slices.remove(i);
+        keep(&mut self.spares, slice.placed);
         true
     }
 }

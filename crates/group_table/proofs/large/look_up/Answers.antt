@@ -1,13 +1,8 @@
-use Rattle.std.proofs.Common.{sym, ap, subst, ◌∙◌}
-use Rattle.std.specs.List.{list_any}
-use Rattle.std.specs.Ordering.{int_eq}
-use Rattle.std.proofs.lemmas.Bool.{not-true}
-use Rattle.group_table.specs.Rows.{groups_of, AreApart}
-use Rattle.group_table.proofs.RowLaws.{apart-push}
+use Rattle.group_table.proofs.GridLaws.{keys-apart, keys-of}
 use Rattle.group_table.proofs.large.look_up.Goals as goal
 
-pub returns-in-Ok-clause-apart : goal.returns-in-Ok-clause-apart
-returns-in-Ok-clause-apart c =
-    subst AreApart (sym c.in-Ok.ensures.groups)
-    (apart-push (groups_of c.args.rows.now.items) _ c.requires.apart
-    (ap (list_any (int_eq _)) (sym c.requires.keys) ∙ not-true _ (sym c.in_ok-row.ensures.added ∙ c.if-not-fresh.false)))
+pub returns-clause-apart : goal.returns-clause-apart
+returns-clause-apart c = keys-apart c.args.groups.now.keys c.insert_full.new.self.keys _ c.in_ok-row.ensures.keys c.requires
+
+pub returns-clause-more : goal.returns-clause-more
+returns-clause-more c = λ cs. keys-of c.args.groups.now.keys c.insert_full.new.self.keys _ cs c.in_ok-row.ensures.keys

@@ -3,7 +3,7 @@ use Rattle.std.proofs.lemmas.Result.{on_ok_weaker}
 use Rattle.group_table.specs.Cells.{count_at}
 use Rattle.group_table.specs.Tables.{cells_at}
 use Rattle.shared_agg.specs.declared.slices.Slice.{Slice}
-use Rattle.shared_agg.specs.Walk.{due, IsFed, IsGrown}
+use Rattle.shared_agg.specs.Fill.{due, IsFed, IsPartlyFed}
 use Rattle.shared_agg.specs.Slices.{HasGot, HasGrown}
 use Rattle.shared_agg.proofs.SliceLaws.{count-of, changed-set}
 use Rattle.shared_agg.proofs.slices.fill_at.Goals as goal
@@ -26,13 +26,13 @@ returns-clause-fed c =
       fed = subst (λ (s : Slice). IsFed s.table c.fill.new.table adds) c.index_mut.ensures.value fed;
     })) c.fill.ensures.fed
 
-pub returns-clause-grown : goal.returns-clause-grown
-returns-clause-grown c =
+pub returns-clause-partly : goal.returns-clause-partly
+returns-clause-partly c =
     let adds = due c.args.g.now c.args.set.now c.args.duties.now in
     let was = c.index_mut.result.now in
     changed-set (HasGrown adds) c.args.slices.now.items c.args.place was
     (record { start = was.start; epoch = was.epoch; table = c.fill.new.table }) c.requires.within (record {
       start = ap (λ (s : Slice). s.start) c.index_mut.ensures.value;
       epoch = ap (λ (s : Slice). s.epoch) c.index_mut.ensures.value;
-      grown = subst (λ (s : Slice). IsGrown s.table c.fill.new.table adds) c.index_mut.ensures.value c.fill.ensures.grown;
+      partly = subst (λ (s : Slice). IsPartlyFed s.table c.fill.new.table adds) c.index_mut.ensures.value c.fill.ensures.partly;
     })

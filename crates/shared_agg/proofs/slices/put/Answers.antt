@@ -1,11 +1,11 @@
-use Rattle.std.proofs.Common.{◌≡◌, ◌<◌, length, get_or, sym, ap, ◌∙◌, arith}
+use Rattle.std.proofs.Common.{◌≡◌, ◌<◌, length, get_or, refl, sym, ap, ◌∙◌, arith}
 use Rattle.std.proofs.lemmas.List.{get_or_default}
-use Rattle.std.proofs.lemmas.Result.{on_ok_weaker}
+use Rattle.std.proofs.lemmas.Result.{on_ok_weaker, on_err_weaker}
 use Rattle.shared_agg.specs.declared.slices.Slice.{Slice}
-use Rattle.shared_agg.specs.Walk.{due}
-use Rattle.shared_agg.proofs.WalkLaws.{due-most}
+use Rattle.shared_agg.specs.Fill.{due}
+use Rattle.shared_agg.proofs.FillLaws.{due-most}
 use Rattle.shared_agg.proofs.SliceLaws.{IsGap}
-use Rattle.shared_agg.proofs.StepLaws.{got-fed, grown-stay, grown-others, grown-lane, made-fed, made-stay, made-lane, none-stay, none-lane, by_either, on_err_all, gap-is}
+use Rattle.shared_agg.proofs.StepLaws.{got-fed, grown-partly, none-partly, grown-stay, grown-others, grown-lane, made-fed, made-stay, made-lane, none-stay, none-lane, by_either, on_err_all, gap-is}
 use Rattle.shared_agg.proofs.slices.put.Goals as goal
 use Rattle.shared_agg.proofs.slices.put.Goals.{else-place-len-via-then-place-len+else-index-start, else-place-len-via-else-place-len, After-fill_at, After-insert}
 
@@ -24,18 +24,31 @@ returns-then-index-start-clause-fed c =
 pub returns-then-index-start-clause-epochs : goal.returns-then-index-start-clause-epochs
 returns-then-index-start-clause-epochs c =
     grown-stay c.args.start c.args.epoch c.place_for-place.result (due c.args.g.now c.args.set.now c.args.duties.now)
-    c.args.slices.now.items c.fill_at.new.slices.items c.index.result.now c.requires.rise (within c) (here c) c.fill_at.ensures.grown
+    c.args.slices.now.items c.fill_at.new.slices.items c.index.result.now c.requires.rise (within c) (here c) c.fill_at.ensures.partly
 
 pub returns-then-index-start-clause-others : goal.returns-then-index-start-clause-others
 returns-then-index-start-clause-others c =
     on_err_all c.fill_at.result (grown-others c.args.start c.args.epoch c.place_for-place.result (due c.args.g.now c.args.set.now c.args.duties.now)
-    c.args.slices.now.items c.fill_at.new.slices.items c.index.result.now c.requires.rise (within c) (here c) c.fill_at.ensures.grown)
+    c.args.slices.now.items c.fill_at.new.slices.items c.index.result.now c.requires.rise (within c) (here c) c.fill_at.ensures.partly)
 
 pub returns-then-index-start-clause-lane : goal.returns-then-index-start-clause-lane
 returns-then-index-start-clause-lane c =
     grown-lane c.args.start c.args.epoch c.place_for-place.result (due c.args.g.now c.args.set.now c.args.duties.now)
     c.args.slices.now.items c.fill_at.new.slices.items c.index.result.now c.requires.rise (within c) (here c)
-    (due-most c.args.g.now c.args.set.now c.args.duties.now) c.fill_at.ensures.grown
+    (due-most c.args.g.now c.args.set.now c.args.duties.now) c.fill_at.ensures.partly
+
+pub returns-then-index-start-clause-own : goal.returns-then-index-start-clause-own
+returns-then-index-start-clause-own c =
+    on_err_all c.fill_at.result (grown-partly c.args.start c.place_for-place.result (due c.args.g.now c.args.set.now c.args.duties.now)
+    c.args.slices.now.items c.fill_at.new.slices.items c.index.result.now c.requires.rise (within c) (here c) c.fill_at.ensures.partly)
+
+pub returns-in_err-slice-clause-own : goal.returns-in_err-slice-clause-own
+returns-in_err-slice-clause-own c =
+    on_err_all c.from_residual.result (none-partly c.args.start (due c.args.g.now c.args.set.now c.args.duties.now) c.args.slices.now.items c.args.slices.now.items refl)
+
+pub returns-clause-own : goal.returns-clause-own
+returns-clause-own c =
+    on_err_weaker c.insert.result (none-partly c.args.start (due c.args.g.now c.args.set.now c.args.duties.now) c.args.slices.now.items c.insert.new.slices.items) c.insert.ensures.err
 
 -- none begins there
 gap : (c : After-insert) → IsGap c.args.start c.place_for-place.result c.args.slices.now.items

@@ -1,0 +1,4 @@
+pub mod ListLaws
+pub mod OrderLaws
+pub mod LookLaws
+pub mod RangeLaws

@@ -1,0 +1,14 @@
+pub mod NeedLaws
+pub mod KeptLaws
+pub mod PastLaws
+pub mod StepLaws
+pub mod FreeLaws
+pub mod SoleLaws
+pub mod CellLaws
+pub mod StoreLaws
+pub mod WholeLaws
+pub mod PairLaws
+pub mod TouchLaws
+pub mod RowLaws
+pub mod JoinLaws
+pub mod MetLaws

@@ -1,0 +1,11 @@
+pub mod Past
+pub mod Orderly
+pub mod IsPast
+pub mod Kept
+pub mod Free
+pub mod Cells
+pub mod Pairs
+pub mod Touched
+pub mod Rows
+pub mod Held
+pub mod Worked

@@ -1,0 +1,15 @@
+use Rattle.std.proofs.Common.{◌≡◌, count_by}
+use Rattle.group_table.specs.Cells.{add_in, sums}
+use Rattle.group_table.specs.Grids.{cells_of}
+use Rattle.group_table.proofs.EachLaws.{AreStepping}
+use Rattle.group_table.proofs.large.Large.add_in_row.Given as goal
+
+-- the slots that are left wait, and all others have the cell
+abbrev pub invariant-slots : goal.invariant-slots
+invariant-slots l = record {
+  keys : l.self.keys ≡ l.initial.self.keys;
+  adding : AreStepping (λ cs. add_in cs l.fn.cell) (λ k. sums (cells_of l.initial.self k)) (λ k. sums (cells_of l.self k)) l.slots l.left;
+}
+
+abbrev pub decreases-slots : goal.decreases-slots
+decreases-slots l = count_by (λ on. on) l.left

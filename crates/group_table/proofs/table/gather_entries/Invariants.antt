@@ -1,6 +1,0 @@
-use Rattle.std.proofs.Common.{◌≡◌, take}
-use Rattle.group_table.specs.Held.{held}
-use Rattle.group_table.proofs.table.gather_entries.Given as goal
-
-abbrev pub invariant-loop-entry : goal.invariant-loop-entry
-invariant-loop-entry l = l.cells.items ≡ held (take l.entry-index l.entries) l.slot
