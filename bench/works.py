@@ -16,7 +16,7 @@ TOP = os.path.dirname(os.path.dirname(os.path.abspath(__file__)))
 PROGRAM = os.path.join(TOP, "crates", "bench", "out", "bench")
 
 # A group: the row that the others have in common, then the rows; of each its work, its slots, and how many records (in the
-# group `window`, how many windows of a thousand records).
+# group `window`, how many windows of a thousand records; in the group `meet`, how many times two slices meet).
 GROUPS = {
     "select": [
         ("select-plain", 1, 10_000_000),
@@ -47,6 +47,21 @@ GROUPS = {
         ("window-plain", 64, 20_000),
         ("window", 512, 20_000),
         ("window-plain", 512, 20_000),
+    ],
+    "meet": [
+        ("select-plain", 1, 10_000_000),
+        ("meet", 1, 20_000),
+        ("meet-plain", 1, 20_000),
+        ("meet", 16, 20_000),
+        ("meet-plain", 16, 2_000),
+        ("meet", 64, 20_000),
+        ("meet-plain", 64, 500),
+        ("meet-many", 1, 40),
+        ("meet-many-plain", 1, 40),
+        ("meet-many", 16, 40),
+        ("meet-many-plain", 16, 5),
+        ("meet-many", 64, 40),
+        ("meet-many-plain", 64, 2),
     ],
     "tag": [
         ("select-plain", 1, 10_000_000),

@@ -3,6 +3,7 @@
 #![tactic(auto)]
 
 mod made;
+mod meet;
 mod queries;
 mod select;
 mod sums;
@@ -26,6 +27,10 @@ fn checksum(work: &Work, alloc: Global) -> Result<u64, NoMemory> {
         Name::SumPlain => sums::by_maps(work, alloc),
         Name::Window => sums::windows_by_aggs(work, alloc),
         Name::WindowPlain => sums::windows_by_folds(work, alloc),
+        Name::Meet => meet::by_joins(work, meet::FEW, alloc),
+        Name::MeetPlain => meet::by_hash_joins(work, meet::FEW, alloc),
+        Name::MeetMany => meet::by_joins(work, meet::MANY, alloc),
+        Name::MeetManyPlain => meet::by_hash_joins(work, meet::MANY, alloc),
         Name::Tag => tag::by_selector(work, alloc),
     }
 }

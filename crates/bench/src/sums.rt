@@ -14,8 +14,8 @@ use std::alloc::Global;
 /// How many records `Aggs` is given at most.
 const MOST: u64 = 1 << 40;
 
-// The first slots, so many.
-fn first_slots(slots: u16) -> QuerySet {
+/// The first slots, so many.
+pub(crate) fn first_slots(slots: u16) -> QuerySet {
     let mut set = QuerySet::none();
     for slot in 0..slots.min(512) {
         set = set.with(slot, true);

@@ -15,6 +15,14 @@ pub(crate) enum Name {
     Window,
     /// The same, by a fold over the records of the window.
     WindowPlain,
+    /// Two slices of a thousand records each meet, by `Joins`.
+    Meet,
+    /// The same, by a hash join for each slot.
+    MeetPlain,
+    /// Two slices of a hundred thousand records each meet, by `Joins`.
+    MeetMany,
+    /// The same, by a hash join for each slot.
+    MeetManyPlain,
     /// Which slots want a record, by a `Selector` that is advanced to each record's time.
     Tag,
 }
@@ -39,6 +47,10 @@ fn name_of(word: &str) -> Option<Name> {
         "sum-plain" => Some(Name::SumPlain),
         "window" => Some(Name::Window),
         "window-plain" => Some(Name::WindowPlain),
+        "meet" => Some(Name::Meet),
+        "meet-plain" => Some(Name::MeetPlain),
+        "meet-many" => Some(Name::MeetMany),
+        "meet-many-plain" => Some(Name::MeetManyPlain),
         "tag" => Some(Name::Tag),
         _ => None,
     }

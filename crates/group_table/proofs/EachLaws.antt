@@ -1,6 +1,7 @@
 -- Going over the slots of a set, and taking a step for each: cells added, or slots cleared.
-use Rattle.std.proofs.Common.{◌≡◌, inl, inr, ℕ, zero, suc, ◌+◌, ◌≤◌, ◌^◌, ◌==◌, ◌&&◌, not, Bool, cond, true, false, true≢false, List, [], ◌∷◌, get_or, set, refl, sym, ap, ap₂, subst, ◌∙◌, arith}
+use Rattle.std.proofs.Common.{◌≡◌, inl, inr, ℕ, zero, suc, ◌+◌, ◌≤◌, ◌<◌, ◌^◌, ◌==◌, ◌&&◌, not, Bool, cond, true, false, true≢false, List, [], ◌∷◌, get_or, set, replicate, refl, sym, ap, ap₂, subst, ◌∙◌, arith}
 use Rattle.std.proofs.lemmas.Bool.{cases_eq, eq-eqb, ne_eqb}
+use Rattle.std.proofs.lemmas.List.{get_or-set_same, get_or-set_other, length-replicate}
 use Rattle.as_base.specs.declared.fragment.Cell.{Cell}
 use Rattle.slot_walk.specs.Walk.{IsTaken}
 use Rattle.group_table.specs.Cells.{add_in, sums, count_at}
@@ -13,7 +14,7 @@ passed (b ∷ bs) [] = b ∷ bs
 passed (b ∷ bs) (l ∷ ls) = (b && not l) ∷ passed bs ls
 
 -- The step was taken for the slots of a set but those that are left.
-pub record AreStepping (step : List Cell → List Cell) (old new : ℕ → List Cell) (slots left : List Bool) : Type 0 where
+pub record AreStepping {X : Type 0} (step : X → X) (old new : ℕ → X) (slots left : List Bool) : Type 0 where
   pub among : (s : ℕ) → get_or left s false ≡ true → get_or slots s false ≡ true
   pub cells : (s : ℕ) → new s ≡ cond (get_or (passed slots left) s false) (step (old s)) (old s)
 
@@ -43,33 +44,33 @@ first-of : (t u : Bool) → (t && u) ≡ true → t ≡ true
 first-of true u e = refl
 first-of false u e = absurd (true≢false (sym e))
 
-out-same : (xs : List Bool) (slot : ℕ) → get_or (set xs slot false) slot false ≡ false
+pub out-same : (xs : List Bool) (slot : ℕ) → get_or (set xs slot false) slot false ≡ false
 out-same [] slot = refl
 out-same (x ∷ xs) zero = refl
 out-same (x ∷ xs) (suc slot) = out-same xs slot
 
-out-other : (xs : List Bool) (slot s : ℕ) → (s == slot) ≡ false → get_or (set xs slot false) s false ≡ get_or xs s false
+pub out-other : (xs : List Bool) (slot s : ℕ) → (s == slot) ≡ false → get_or (set xs slot false) s false ≡ get_or xs s false
 out-other [] slot s e = refl
 out-other (x ∷ xs) zero zero e = absurd (true≢false e)
 out-other (x ∷ xs) zero (suc s) e = refl
 out-other (x ∷ xs) (suc slot) zero e = refl
 out-other (x ∷ xs) (suc slot) (suc s) e = out-other xs slot s (ne_eqb s slot (λ at. true≢false (sym (eq-eqb (suc s) (suc slot) (ap suc at)) ∙ e)))
 
-module _ (step : List Cell → List Cell) (old : ℕ → List Cell) (slots : List Bool) where
+module _ {X : Type 0} (step : X → X) (old : ℕ → X) (slots : List Bool) where
   -- no step was taken yet
-  pub each-begin : (new : ℕ → List Cell) (left : List Bool) → ((s : ℕ) → new s ≡ old s) → left ≡ slots → AreStepping step old new slots left
+  pub each-begin : (new : ℕ → X) (left : List Bool) → ((s : ℕ) → new s ≡ old s) → left ≡ slots → AreStepping step old new slots left
   each-begin new left same is = record {
     among = λ s e. ap (λ l. get_or l s false) (sym is) ∙ e;
     cells = λ s. same s ∙ sym (ap (λ t. cond t (step (old s)) (old s)) (has-passed slots left s ∙ ap (λ l. get_or slots s false && not (get_or l s false)) is ∙ none-and (get_or slots s false)));
   }
 
-  module _ (now : ℕ → List Cell) (left : List Bool) (h : AreStepping step old now slots left) where
+  module _ (now : ℕ → X) (left : List Bool) (h : AreStepping step old now slots left) where
     -- a slot that is left has what it had
     pub each-same : (slot : ℕ) → get_or left slot false ≡ true → now slot ≡ old slot
     each-same slot e = h.cells slot ∙ ap (λ t. cond t (step (old slot)) (old slot)) (has-passed slots left slot ∙ ap (λ t. get_or slots slot false && not t) e ∙ and-false (get_or slots slot false))
 
     -- one step more
-    pub each-step : (next : ℕ → List Cell) (rest : List Bool) (slot : ℕ) → IsTaken left rest slot → ((s : ℕ) → next s ≡ cond (s == slot) (step (now s)) (now s)) → AreStepping step old next slots rest
+    pub each-step : (next : ℕ → X) (rest : List Bool) (slot : ℕ) → IsTaken left rest slot → ((s : ℕ) → next s ≡ cond (s == slot) (step (now s)) (now s)) → AreStepping step old next slots rest
     each-step next rest slot k e = record {
       among = λ s on. elim (cases_eq s slot) [
         | inl at ↦ absurd (true≢false (sym on ∙ ap (λ n. get_or rest n false) at ∙ ap (λ l. get_or l slot false) k.gone ∙ out-same left slot))
@@ -116,3 +117,19 @@ sums-dropped old now slots s h = ap sums h ∙ go (get_or slots s false)
     go : (t : Bool) → sums (cond t [] (old s)) ≡ cond t [] (sums (old s))
     go true = refl
     go false = refl
+
+none-at : (k s : ℕ) → get_or (replicate k false) s false ≡ false
+none-at zero s = refl
+none-at (suc k) zero = refl
+none-at (suc k) (suc s) = none-at k s
+
+-- a set of one slot
+pub only-one : (slots : List Bool) (k slot s : ℕ) → slots ≡ set (replicate k false) slot true → slot < k → get_or slots s false ≡ (s == slot)
+only-one slots k slot s is low = ap (λ l. get_or l s false) is ∙ elim (cases_eq s slot) [
+  | inl at ↦ ap (λ n. get_or (set (replicate k false) slot true) n false) at ∙ get_or-set_same (replicate k false) slot true false (let a = length-replicate {A = Bool} k false in omega (arith, a, low)) ∙ sym (eq-eqb s slot at)
+  | inr n ↦ get_or-set_other (replicate k false) slot s true false n ∙ none-at k s ∙ sym (ne_eqb s slot n)
+]
+
+-- nothing was added
+pub each-none : (old new : ℕ → List Cell) (slots : List Bool) (c : Cell) → ((s : ℕ) → new s ≡ old s) → HaveSome old new slots c
+each-none old new slots c same = record { which = []; among = λ s on. absurd (true≢false (sym on)); cells = same }

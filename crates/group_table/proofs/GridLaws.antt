@@ -1,20 +1,19 @@
--- Cells in columns, where a place changes.
-use Rattle.std.proofs.Common.{◌≡◌, inl, inr, ℕ, ℤ, pos, zero, suc, ◌+◌, ◌-◌, ◌≤◌, ◌<◌, ◌==◌, Bool, cond, true, false, true≢false, List, [], ◌∷◌, ◌++◌, length, get_or, set, take, replicate, Some, slice_get, refl, sym, ap, ap₂, subst, ◌∙◌, append_assoc, append-nil, arith, length-append, length-set, take_all}
+-- Cells in rows, where a place changes.
+use Rattle.std.proofs.Common.{◌≡◌, inl, inr, ℕ, ℤ, pos, zero, suc, ◌+◌, ◌≤◌, ◌<◌, ◌==◌, Bool, cond, true, false, true≢false, List, [], ◌∷◌, ◌++◌, length, get_or, set, take, drop, replicate, Some, slice_get, refl, sym, ap, ap₂, subst, ◌∙◌, append_assoc, append-nil, arith, length-append, length-set}
 use Rattle.std.specs.List.{fold, list_any, AllByRecursion}
 use Rattle.std.specs.Ordering.{int_eq}
-use Rattle.std.proofs.lemmas.Bool.{cases_eq, cases_lt, eqb-true, eq-eqb, ne_eqb, or_parts, false_from_ne_true}
+use Rattle.std.proofs.lemmas.Bool.{cases_eq, eq-eqb, ne_eqb, or_parts, false_from_ne_true}
 use Rattle.std.proofs.lemmas.Int.{ints}
-use Rattle.std.proofs.lemmas.List.{get_or-set_same, get_or-set_other, get_or_past, take_more}
+use Rattle.std.proofs.lemmas.List.{get_or-set_other, get_or_past}
 use Rattle.std.proofs.lemmas.List.Sums.{fold-append}
 use Rattle.indexmap.specs.IndexSet.{insert_key}
 use Rattle.as_base.specs.declared.fragment.Cell.{Cell}
-use Rattle.group_table.specs.Cells.{blank, plus, add_in, sums, count_at, times, IsSound, AreCells}
-use Rattle.group_table.specs.Grids.{shown, all_shown, with_place, IsPlace, AreOf, AreApart, IsLarge}
+use Rattle.group_table.specs.Cells.{blank, plus, add_in, count_at, times, IsSound}
+use Rattle.group_table.specs.Grids.{shown, all_shown, column, without, IsPlace, AreRows, AreApart}
 use Rattle.group_table.proofs.CellLaws.{add_in_in, fold_last, plus_turn, one}
 use Rattle.group_table.proofs.SumLaws.{eq-from, eq-to}
 use Rattle.group_table.proofs.HeldLaws.{sound-plus}
-use Rattle.group_table.proofs.ListLaws.{all-at, all-set, all-append}
-use Rattle.group_table.proofs.TotalLaws.{total-step, total-part, total-empty}
+use Rattle.group_table.proofs.ListLaws.{all-set, all-append, all-replicate}
 
 -- ---- a place
 
@@ -69,38 +68,32 @@ pub blank-is : (g : ℤ) → IsPlace g blank
 blank-is g = record { sound = record { above = omega (arith, ints); below = omega (arith, ints) }; group_is = λ h. absurd (omega (arith, h)) }
 
 -- a cell added to a place
-plus-is : (g : ℤ) (c d : Cell) → IsSound c → c.group ≡ g → IsPlace g d → IsPlace g (plus c d)
+pub plus-is : (g : ℤ) (c d : Cell) → IsSound c → c.group ≡ g → IsPlace g d → IsPlace g (plus c d)
 plus-is g c d sound same h = record { sound = sound-plus c d sound h.sound; group_is = λ some. same }
 
 -- ---- a column
 
-pub shown-append : (cs ds : List Cell) → all_shown (cs ++ ds) ≡ all_shown cs ++ all_shown ds
-shown-append [] ds = refl
-shown-append (c ∷ cs) ds = ap (λ l. shown c ++ l) (shown-append cs ds) ∙ sym (append_assoc (shown c) (all_shown cs) (all_shown ds))
+-- each place of a column is of the group of its row, and those beyond the groups are empty
+abbrev AreOf : List ℤ → List Cell → Type 0
+AreOf [] [] = Unit {0}
+AreOf [] (c ∷ cs) = (c ≡ blank) × AreOf [] cs
+AreOf (key ∷ keys) [] = Unit {0}
+AreOf (key ∷ keys) (c ∷ cs) = IsPlace key c × AreOf keys cs
 
-of-none : (keys : List ℤ) → AreOf keys []
-of-none [] = tt
-of-none (k ∷ keys) = tt
+none-shown : (cs : List Cell) → AreOf [] cs → all_shown cs ≡ []
+none-shown [] h = refl
+none-shown (c ∷ cs) h = ap (λ d. shown d ++ all_shown cs) h.0 ∙ none-shown cs h.1
 
--- a group more changes nothing
-of-more : (keys : List ℤ) (cs : List Cell) (g : ℤ) → AreOf keys cs → AreOf (keys ++ g ∷ []) cs
-of-more [] [] g h = tt
-of-more [] (c ∷ cs) g h = absurd h
-of-more (k ∷ keys) [] g h = tt
-of-more (k ∷ keys) (c ∷ cs) g h = (h.0, of-more keys cs g h.1)
+pub place-in : (g : ℤ) (row : List Cell) (number : ℕ) → AllByRecursion (IsPlace g) row → IsPlace g (get_or row number blank)
+place-in g [] number h = blank-is g
+place-in g (c ∷ cs) zero h = h.0
+place-in g (c ∷ cs) (suc number) h = place-in g cs number h.1
 
-pub of-at : (keys : List ℤ) (cs : List Cell) (row : ℕ) (g : ℤ) → AreOf keys cs → slice_get keys row ≡ Some g → IsPlace g (get_or cs row blank)
-of-at [] cs row g h at = absurd (cc)
-of-at (k ∷ keys) [] row g h at = blank-is g
-of-at (k ∷ keys) (c ∷ cs) zero g h at = subst (λ g. IsPlace g c) (let e : k ≡ g = (cc) in e) h.0
-of-at (k ∷ keys) (c ∷ cs) (suc row) g h at = of-at keys cs row g h.1 at
-
-of-with : (keys : List ℤ) (cs : List Cell) (row : ℕ) (g : ℤ) (new : Cell) → AreOf keys cs → slice_get keys row ≡ Some g → IsPlace g new → AreOf keys (with_place row new cs)
-of-with [] cs row g new h at one = absurd (cc)
-of-with (k ∷ keys) [] zero g new h at one = (subst (λ g. IsPlace g new) (let e : g ≡ k = (cc) in e) one, of-none keys)
-of-with (k ∷ keys) [] (suc row) g new h at one = (blank-is k, of-with keys [] row g new (of-none keys) at one)
-of-with (k ∷ keys) (c ∷ cs) zero g new h at one = (subst (λ g. IsPlace g new) (let e : g ≡ k = (cc) in e) one, h.1)
-of-with (k ∷ keys) (c ∷ cs) (suc row) g new h at one = (h.0, of-with keys cs row g new h.1 at one)
+pub of-column : (keys : List ℤ) (rows : List (List Cell)) (number : ℕ) → AreRows keys rows → AreOf keys (column number rows)
+of-column [] [] number h = tt
+of-column [] (row ∷ rows) number h = (ap (λ (r : List Cell). get_or r number blank) h.0, of-column [] rows number h.1)
+of-column (k ∷ keys) [] number h = tt
+of-column (k ∷ keys) (row ∷ rows) number h = (place-in k row number h.0, of-column keys rows number h.1)
 
 -- where the first place has a cell more, the column has
 shown-first : (b : List Cell) (d : Cell) (ds : List Cell) (g : ℤ) (c : Cell) → 0 < c.count → c.group ≡ g → IsPlace g d
@@ -113,44 +106,38 @@ shown-first b d ds g c some same h =
     ∙ sym (ap (λ l. add_in l c) (fold-append add_in b (shown d) (all_shown ds)))
 
 -- where one place has a cell more, the column has
-shown-with : (b : List Cell) (cs : List Cell) (row : ℕ) (g : ℤ) (c : Cell) → 0 < c.count → c.group ≡ g → IsPlace g (get_or cs row blank)
-    → fold add_in b (all_shown (with_place row (plus c (get_or cs row blank)) cs)) ≡ add_in (fold add_in b (all_shown cs)) c
-shown-with b (d ∷ ds) zero g c some same h = shown-first b d ds g c some same h
-shown-with b (d ∷ ds) (suc row) g c some same h =
-    fold-append add_in b (shown d) (all_shown (with_place row (plus c (get_or ds row blank)) ds))
-    ∙ shown-with (fold add_in b (shown d)) ds row g c some same h
+pub shown-set : (b : List Cell) (cs : List Cell) (row : ℕ) (g : ℤ) (c : Cell) → row < length cs → 0 < c.count → c.group ≡ g → IsPlace g (get_or cs row blank)
+    → fold add_in b (all_shown (set cs row (plus c (get_or cs row blank)))) ≡ add_in (fold add_in b (all_shown cs)) c
+shown-set b [] row g c low some same h = absurd (omega (arith, low))
+shown-set b (d ∷ ds) zero g c low some same h = shown-first b d ds g c some same h
+shown-set b (d ∷ ds) (suc row) g c low some same h =
+    fold-append add_in b (shown d) (all_shown (set ds row (plus c (get_or ds row blank))))
+    ∙ shown-set (fold add_in b (shown d)) ds row g c (omega (arith, low)) some same h
     ∙ sym (ap (λ l. add_in l c) (fold-append add_in b (shown d) (all_shown ds)))
-shown-with b [] zero g c some same h = shown-first b blank [] g c some same h
-shown-with b [] (suc row) g c some same h = shown-with b [] row g c some same h
 
-length-shown : (d : Cell) → length (shown d) ≡ cond (d.count == 0) 0 1
+pub length-shown : (d : Cell) → length (shown d) ≡ cond (d.count == 0) 0 1
 length-shown d = by (d.count == 0)
   where
     by : (t : Bool) → length (cond t [] (d ∷ [])) ≡ cond t 0 1
     by true = refl
     by false = refl
 
--- a cell more where the place was empty
-length-with : (cs : List Cell) (row : ℕ) (c : Cell) → 0 < c.count
-    → length (all_shown (with_place row (plus c (get_or cs row blank)) cs)) ≡ length (all_shown cs) + cond ((get_or cs row blank).count == 0) 1 0
-length-with (d ∷ ds) zero c some =
-    let a = length-append (shown (plus c d)) (all_shown ds) in
-    let b = length-append (shown d) (all_shown ds) in
-    let e = ap length (shown-some (plus c d) (omega (arith, some))) in
-    let f = length-shown d in
-    let k = either (d.count == 0) in
-    omega (arith, a, b, e, f, k)
+pub shown-most : (d : Cell) → length (shown d) ≤ 1
+shown-most d = let a = length-shown d in let b = by (d.count == 0) in omega (arith, a, b)
   where
-    either : (t : Bool) → cond {A = ℕ} t 1 0 + cond t 0 1 ≡ 1
-    either true = refl
-    either false = refl
-length-with (d ∷ ds) (suc row) c some =
-    let a = length-append (shown d) (all_shown (with_place row (plus c (get_or ds row blank)) ds)) in
-    let b = length-append (shown d) (all_shown ds) in
-    let h = length-with ds row c some in
+    by : (t : Bool) → cond {A = ℕ} t 0 1 ≤ 1
+    by true = omega arith
+    by false = omega arith
+
+-- another place has as many cells more
+pub length-set-shown : (cs : List Cell) (row : ℕ) (d : Cell) → row < length cs → length (all_shown (set cs row d)) + length (shown (get_or cs row blank)) ≡ length (all_shown cs) + length (shown d)
+length-set-shown [] row d low = absurd (omega (arith, low))
+length-set-shown (c ∷ cs) zero d low = let a = length-append (shown d) (all_shown cs) in let b = length-append (shown c) (all_shown cs) in omega (arith, a, b)
+length-set-shown (c ∷ cs) (suc row) d low =
+    let a = length-append (shown c) (all_shown (set cs row d)) in
+    let b = length-append (shown c) (all_shown cs) in
+    let h = length-set-shown cs row d (omega (arith, low)) in
     omega (arith, a, b, h)
-length-with [] zero c some = ap length (append-nil (shown (plus c blank)) ∙ shown-some (plus c blank) (omega (arith, some)))
-length-with [] (suc row) c some = length-with [] row c some
 
 count-append : (xs ys : List Cell) (g : ℤ) → count_at (xs ++ ys) g ≡ count_at xs g + count_at ys g
 count-append [] ys g = omega arith
@@ -175,7 +162,7 @@ count-place (k ∷ keys) (c ∷ cs) (suc row) g h at =
 
 absent-times : (g : ℤ) (keys : List ℤ) (cs : List Cell) → AreOf keys cs → AllByRecursion (λ later. int_eq g later ≡ false) keys → times g (all_shown cs) ≡ 0
 absent-times g [] [] h n = refl
-absent-times g [] (c ∷ cs) h n = absurd h
+absent-times g [] (c ∷ cs) h n = ap (times g) (none-shown (c ∷ cs) h)
 absent-times g (k ∷ keys) [] h n = refl
 absent-times g (k ∷ keys) (c ∷ cs) h n =
     let a = times-append g (shown c) (all_shown cs) in
@@ -188,9 +175,9 @@ absent-times g (k ∷ keys) (c ∷ cs) h n =
     turn e = false_from_ne_true (int_eq k g) (λ f. true≢false (sym (eq-to g k (sym (eq-from k g f))) ∙ e))
 
 -- no column has two cells of one group
-once-column : (keys : List ℤ) (cs : List Cell) (g : ℤ) → AreOf keys cs → AreApart keys → times g (all_shown cs) ≤ 1
+pub once-column : (keys : List ℤ) (cs : List Cell) (g : ℤ) → AreOf keys cs → AreApart keys → times g (all_shown cs) ≤ 1
 once-column [] [] g h apart = omega arith
-once-column [] (c ∷ cs) g h apart = absurd h
+once-column [] (c ∷ cs) g h apart = let a = ap (times g) (none-shown (c ∷ cs) h) in omega (arith, a)
 once-column (k ∷ keys) [] g h apart = omega arith
 once-column (k ∷ keys) (c ∷ cs) g h apart = go (int_eq k g) refl (once-column keys cs g h.1 apart.1)
   where
@@ -207,9 +194,9 @@ once-column (k ∷ keys) (c ∷ cs) g h apart = go (int_eq k g) refl (once-colum
         let f = ap (λ t. cond {A = ℕ} t 1 0) e in
         omega (arith, a, b, f, none)
 
-sound-column : (keys : List ℤ) (cs : List Cell) → AreOf keys cs → AllByRecursion IsSound (all_shown cs)
+pub sound-column : (keys : List ℤ) (cs : List Cell) → AreOf keys cs → AllByRecursion IsSound (all_shown cs)
 sound-column [] [] h = tt
-sound-column [] (c ∷ cs) h = absurd h
+sound-column [] (c ∷ cs) h = subst (AllByRecursion IsSound) (sym (none-shown (c ∷ cs) h)) tt
 sound-column (k ∷ keys) [] h = tt
 sound-column (k ∷ keys) (c ∷ cs) h = all-append IsSound (shown c) (all_shown cs) (by (c.count == 0)) (sound-column keys cs h.1)
   where
@@ -217,35 +204,154 @@ sound-column (k ∷ keys) (c ∷ cs) h = all-append IsSound (shown c) (all_shown
     by true = tt
     by false = (h.0.sound, tt)
 
-some-column : (cs : List Cell) → AllByRecursion (λ (c : Cell). 0 < c.count) (all_shown cs)
+pub some-column : (cs : List Cell) → AllByRecursion (λ (c : Cell). 0 < c.count) (all_shown cs)
 some-column [] = tt
 some-column (c ∷ cs) = all-append (λ (c : Cell). 0 < c.count) (shown c) (all_shown cs) (elim (cases_eq c.count 0) [
   | inl e ↦ subst (AllByRecursion (λ (c : Cell). 0 < c.count)) (sym (shown-none c e)) tt
   | inr n ↦ let some : 0 < c.count = omega (arith, n) in subst (AllByRecursion (λ (c : Cell). 0 < c.count)) (sym (shown-some c some)) (some, tt)
 ]) (some-column cs)
 
--- ---- where a place is written
+-- ---- columns of rows
 
--- into a place that there is
-pub set-within : (cs : List Cell) (row : ℕ) (c : Cell) → row < length cs → set cs row c ≡ with_place row c cs
-set-within [] row c low = absurd (omega (arith, low))
-set-within (d ∷ ds) zero c low = refl
-set-within (d ∷ ds) (suc row) c low = ap (λ l. d ∷ l) (set-within ds row c (omega (arith, low)))
+pub length-column : (number : ℕ) (rows : List (List Cell)) → length (column number rows) ≡ length rows
+length-column number [] = refl
+length-column number (row ∷ rows) = ap suc (length-column number rows)
 
--- into a place made for it
-made : (cs : List Cell) (row k : ℕ) (c : Cell) → length cs + k ≡ row + 1 → length cs ≤ row → set (cs ++ replicate k blank) row c ≡ with_place row c cs
-made [] zero zero c e low = absurd (omega (arith, e))
-made [] zero (suc zero) c e low = refl
-made [] zero (suc (suc k)) c e low = absurd (omega (arith, e))
-made [] (suc row) zero c e low = absurd (omega (arith, e))
-made [] (suc row) (suc k) c e low = ap (λ l. blank ∷ l) (made [] row k c (omega (arith, e)) (omega arith))
-made (d ∷ ds) zero k c e low = absurd (omega (arith, low))
-made (d ∷ ds) (suc row) k c e low = ap (λ l. d ∷ l) (made ds row k c (omega (arith, e)) (omega (arith, low)))
+pub column-at : (number : ℕ) (rows : List (List Cell)) (row : ℕ) → get_or (column number rows) row blank ≡ get_or (get_or rows row []) number blank
+column-at number [] row = refl
+column-at number (r ∷ rows) zero = refl
+column-at number (r ∷ rows) (suc row) = column-at number rows row
 
-pub set-made : (cs : List Cell) (row n long : ℕ) (c : Cell) → n ≡ row + 1 → long ≡ length cs → length cs ≤ row → set (take n cs ++ replicate (n - long) blank) row c ≡ with_place row c cs
-set-made cs row n long c e is low =
-    ap (λ l. set (l ++ replicate (n - long) blank) row c) (take_all n cs (omega (arith, e, low)))
-    ∙ made cs row (n - long) c (omega (arith, e, is, low)) low
+pub column-set : (number : ℕ) (rows : List (List Cell)) (row : ℕ) (new : List Cell) → column number (set rows row new) ≡ set (column number rows) row (get_or new number blank)
+column-set number [] row new = refl
+column-set number (r ∷ rows) zero new = refl
+column-set number (r ∷ rows) (suc row) new = ap (λ l. get_or r number blank ∷ l) (column-set number rows row new)
+
+set-own : (cs : List Cell) (row : ℕ) → set cs row (get_or cs row blank) ≡ cs
+set-own [] row = refl
+set-own (c ∷ cs) zero = refl
+set-own (c ∷ cs) (suc row) = ap (λ l. c ∷ l) (set-own cs row)
+
+-- a row with the same place leaves the column
+pub column-same : (number : ℕ) (rows : List (List Cell)) (row : ℕ) (new : List Cell) → get_or new number blank ≡ get_or (get_or rows row []) number blank → column number (set rows row new) ≡ column number rows
+column-same number rows row new e = column-set number rows row new ∙ ap (set (column number rows) row) (e ∙ sym (column-at number rows row)) ∙ set-own (column number rows) row
+
+-- rows without places have no cells
+pub column-none : (number k : ℕ) → all_shown (column number (replicate k [])) ≡ []
+column-none number zero = refl
+column-none number (suc k) = column-none number k
+
+pub column-pad : (number : ℕ) (rows : List (List Cell)) (k : ℕ) → all_shown (column number (rows ++ replicate k [])) ≡ all_shown (column number rows)
+column-pad number [] k = column-none number k
+column-pad number (row ∷ rows) k = ap (λ l. shown (get_or row number blank) ++ l) (column-pad number rows k)
+
+-- a column beyond all rows has none
+pub column-past : (number width : ℕ) (rows : List (List Cell)) → AllByRecursion (λ (row : List Cell). length row ≤ width) rows → width ≤ number → all_shown (column number rows) ≡ []
+column-past number width [] h far = refl
+column-past number width (row ∷ rows) h far =
+    let short = h.0 in
+    ap (λ c. shown c ++ all_shown (column number rows)) (get_or_past row number blank (omega (arith, short, far))) ∙ column-past number width rows h.1 far
+
+blank-at : (k number : ℕ) → get_or (replicate k blank) number blank ≡ blank
+blank-at zero number = refl
+blank-at (suc k) zero = refl
+blank-at (suc k) (suc number) = blank-at k number
+
+-- empty places behind a row change none of its places
+pub pad-at : (row : List Cell) (k number : ℕ) → get_or (row ++ replicate k blank) number blank ≡ get_or row number blank
+pad-at [] k number = blank-at k number
+pad-at (c ∷ row) k zero = refl
+pad-at (c ∷ row) k (suc number) = pad-at row k number
+
+blanked-same : (row : List Cell) (number : ℕ) → get_or (set row number blank) number blank ≡ blank
+blanked-same [] number = refl
+blanked-same (c ∷ row) zero = refl
+blanked-same (c ∷ row) (suc number) = blanked-same row number
+
+pub without-same : (number : ℕ) (rows : List (List Cell)) → all_shown (column number (without number rows)) ≡ []
+without-same number [] = refl
+without-same number (row ∷ rows) = ap (λ c. shown c ++ all_shown (column number (without number rows))) (blanked-same row number) ∙ without-same number rows
+
+pub without-other : (number other : ℕ) (rows : List (List Cell)) → (other ≡ number → ⊥) → column other (without number rows) ≡ column other rows
+without-other number other [] n = refl
+without-other number other (row ∷ rows) n = ap₂ (λ c l. c ∷ l) (get_or-set_other row number other blank blank n) (without-other number other rows n)
+
+-- ---- going over rows
+
+-- the cells of a row more
+pub shown-next : (number : ℕ) (rows : List (List Cell)) (i : ℕ) (d : List Cell) → i < length rows → all_shown (column number (take (i + 1) rows)) ≡ all_shown (column number (take i rows)) ++ shown (get_or (get_or rows i d) number blank)
+shown-next number [] i d low = absurd (omega (arith, low))
+shown-next number (row ∷ rows) zero d low = append-nil (shown (get_or row number blank))
+shown-next number (row ∷ rows) (suc i) d low =
+    let n : suc i + 1 ≡ suc (i + 1) = omega arith in
+    ap (λ n. all_shown (column number (take n (row ∷ rows)))) n
+    ∙ ap (λ l. shown (get_or row number blank) ++ l) (shown-next number rows i d (omega (arith, low)))
+    ∙ sym (append_assoc (shown (get_or row number blank)) (all_shown (column number (take i rows))) (shown (get_or (get_or rows i d) number blank)))
+
+-- the rows that are still to come are as they were
+pub still-at : (number : ℕ) (rows : List (List Cell)) (i : ℕ) (d : List Cell) → i < length rows → get_or (without number (take i rows) ++ drop i rows) i d ≡ get_or rows i d
+still-at number [] i d low = absurd (omega (arith, low))
+still-at number (row ∷ rows) zero d low = refl
+still-at number (row ∷ rows) (suc i) d low = still-at number rows i d (omega (arith, low))
+
+pub blanked-next : (number : ℕ) (rows : List (List Cell)) (i : ℕ) (d : List Cell) → i < length rows
+    → set (without number (take i rows) ++ drop i rows) i (set (get_or rows i d) number blank) ≡ without number (take (i + 1) rows) ++ drop (i + 1) rows
+blanked-next number [] i d low = absurd (omega (arith, low))
+blanked-next number (row ∷ rows) zero d low = refl
+blanked-next number (row ∷ rows) (suc i) d low =
+    let n : suc i + 1 ≡ suc (i + 1) = omega arith in
+    ap (λ l. set row number blank ∷ l) (blanked-next number rows i d (omega (arith, low))) ∙ sym (ap (λ n. without number (take n (row ∷ rows)) ++ drop n (row ∷ rows)) n)
+
+-- ---- rows
+
+pub get-low : (keys : List ℤ) (row : ℕ) (g : ℤ) → slice_get keys row ≡ Some g → row < length keys
+get-low [] row g at = absurd (cc)
+get-low (k ∷ keys) zero g at = omega arith
+get-low (k ∷ keys) (suc row) g at = let h = get-low keys row g at in omega (arith, h)
+
+pub rows-at : (keys : List ℤ) (rows : List (List Cell)) (row : ℕ) (g : ℤ) → AreRows keys rows → slice_get keys row ≡ Some g → AllByRecursion (IsPlace g) (get_or rows row [])
+rows-at [] rows row g h at = absurd (cc)
+rows-at (k ∷ keys) [] row g h at = tt
+rows-at (k ∷ keys) (r ∷ rows) zero g h at = subst (λ g. AllByRecursion (IsPlace g) r) (let e : k ≡ g = (cc) in e) h.0
+rows-at (k ∷ keys) (r ∷ rows) (suc row) g h at = rows-at keys rows row g h.1 at
+
+pub rows-set : (keys : List ℤ) (rows : List (List Cell)) (row : ℕ) (g : ℤ) (new : List Cell) → AreRows keys rows → slice_get keys row ≡ Some g → AllByRecursion (IsPlace g) new → AreRows keys (set rows row new)
+rows-set [] rows row g new h at one = absurd (cc)
+rows-set (k ∷ keys) [] row g new h at one = tt
+rows-set (k ∷ keys) (r ∷ rows) zero g new h at one = (subst (λ g. AllByRecursion (IsPlace g) new) (let e : g ≡ k = (cc) in e) one, h.1)
+rows-set (k ∷ keys) (r ∷ rows) (suc row) g new h at one = (h.0, rows-set keys rows row g new h.1 at one)
+
+pub rows-nothing : (keys : List ℤ) (k : ℕ) → AreRows keys (replicate k [])
+rows-nothing [] zero = tt
+rows-nothing [] (suc k) = (refl, rows-nothing [] k)
+rows-nothing (key ∷ keys) zero = tt
+rows-nothing (key ∷ keys) (suc k) = (tt, rows-nothing keys k)
+
+pub rows-pad : (keys : List ℤ) (rows : List (List Cell)) (k : ℕ) → AreRows keys rows → AreRows keys (rows ++ replicate k [])
+rows-pad keys [] k h = rows-nothing keys k
+rows-pad [] (row ∷ rows) k h = (h.0, rows-pad [] rows k h.1)
+rows-pad (key ∷ keys) (row ∷ rows) k h = (h.0, rows-pad keys rows k h.1)
+
+pub rows-without : (keys : List ℤ) (rows : List (List Cell)) (number : ℕ) → AreRows keys rows → AreRows keys (without number rows)
+rows-without [] [] number h = tt
+rows-without [] (row ∷ rows) number h = (ap (λ (r : List Cell). set r number blank) h.0, rows-without [] rows number h.1)
+rows-without (key ∷ keys) [] number h = tt
+rows-without (key ∷ keys) (row ∷ rows) number h = (all-set (IsPlace key) row number blank h.0 (blank-is key), rows-without keys rows number h.1)
+
+pub narrow-without : (width number : ℕ) (rows : List (List Cell)) → AllByRecursion (λ (row : List Cell). length row ≤ width) rows → AllByRecursion (λ (row : List Cell). length row ≤ width) (without number rows)
+narrow-without width number [] h = tt
+narrow-without width number (row ∷ rows) h = (let a = length-set row number blank in let b = h.0 in omega (arith, a, b), narrow-without width number rows h.1)
+
+pub length-without : (number : ℕ) (rows : List (List Cell)) → length (without number rows) ≡ length rows
+length-without number [] = refl
+length-without number (row ∷ rows) = ap suc (length-without number rows)
+
+pub narrow-wider : (width wider : ℕ) (rows : List (List Cell)) → width ≤ wider → AllByRecursion (λ (row : List Cell). length row ≤ width) rows → AllByRecursion (λ (row : List Cell). length row ≤ wider) rows
+narrow-wider width wider [] le h = tt
+narrow-wider width wider (row ∷ rows) le h = (let b = h.0 in omega (arith, le, b), narrow-wider width wider rows le h.1)
+
+pub pad-is : (g : ℤ) (row : List Cell) (k : ℕ) → AllByRecursion (IsPlace g) row → AllByRecursion (IsPlace g) (row ++ replicate k blank)
+pad-is g row k h = all-append (IsPlace g) row (replicate k blank) h (all-replicate (IsPlace g) k blank (blank-is g))
 
 -- ---- groups
 
@@ -265,156 +371,32 @@ apart-insert gs g h = go (list_any (int_eq g) gs) refl
     go true e = h
     go false e = apart-push gs g h e
 
-of-insert : (gs : List ℤ) (g : ℤ) (cs : List Cell) → AreOf gs cs → AreOf (insert_key int_eq gs g) cs
-of-insert gs g cs h = go (list_any (int_eq g) gs)
+-- a group more changes nothing
+rows-more : (keys : List ℤ) (rows : List (List Cell)) (g : ℤ) → AreRows keys rows → AreRows (keys ++ g ∷ []) rows
+rows-more [] [] g h = tt
+rows-more [] (row ∷ rows) g h = (subst (AllByRecursion (IsPlace g)) (sym h.0) tt, h.1)
+rows-more (k ∷ keys) [] g h = tt
+rows-more (k ∷ keys) (row ∷ rows) g h = (h.0, rows-more keys rows g h.1)
+
+rows-insert : (gs : List ℤ) (g : ℤ) (rows : List (List Cell)) → AreRows gs rows → AreRows (insert_key int_eq gs g) rows
+rows-insert gs g rows h = go (list_any (int_eq g) gs)
   where
-    go : (t : Bool) → AreOf (cond t gs (gs ++ g ∷ [])) cs
+    go : (t : Bool) → AreRows (cond t gs (gs ++ g ∷ [])) rows
     go true = h
-    go false = of-more gs cs g h
+    go false = rows-more gs rows g h
+
+long-insert : (gs : List ℤ) (g : ℤ) → length (insert_key int_eq gs g) ≤ length gs + 1
+long-insert gs g = go (list_any (int_eq g) gs)
+  where
+    go : (t : Bool) → length (cond t gs (gs ++ g ∷ [])) ≤ length gs + 1
+    go true = omega arith
+    go false = let a = length-append gs (g ∷ []) in omega (arith, a)
 
 pub keys-apart : (gs new : List ℤ) (g : ℤ) → new ≡ insert_key int_eq gs g → AreApart gs → AreApart new
 keys-apart gs new g e h = subst AreApart (sym e) (apart-insert gs g h)
 
-pub keys-of : (gs new : List ℤ) (g : ℤ) (cs : List Cell) → new ≡ insert_key int_eq gs g → AreOf gs cs → AreOf new cs
-keys-of gs new g cs e h = subst (λ keys. AreOf keys cs) (sym e) (of-insert gs g cs h)
+pub keys-of : (gs new : List ℤ) (g : ℤ) (rows : List (List Cell)) → new ≡ insert_key int_eq gs g → AreRows gs rows → AreRows new rows
+keys-of gs new g rows e h = subst (λ keys. AreRows keys rows) (sym e) (rows-insert gs g rows h)
 
--- ---- the whole
-
-abbrev pub cells_in : List (List Cell) → ℕ → List Cell
-cells_in columns slot = all_shown (get_or columns slot [])
-
-pub in-same : (columns : List (List Cell)) (slot : ℕ) (new : List Cell) → slot < length columns → cells_in (set columns slot new) slot ≡ all_shown new
-in-same columns slot new low = ap all_shown (get_or-set_same columns slot new [] low)
-
-in-other : (columns : List (List Cell)) (slot s : ℕ) (new : List Cell) → (s == slot) ≡ false → cells_in (set columns slot new) s ≡ cells_in columns s
-in-other columns slot s new e = ap all_shown (get_or-set_other columns slot s new [] (λ at. true≢false (sym (eq-eqb s slot at) ∙ e)))
-
-abbrev pub place_at : List (List Cell) → ℕ → ℕ → Cell
-place_at columns slot row = get_or (get_or columns slot []) row blank
-
--- the columns with a cell added in one place
-abbrev pub put_in : List (List Cell) → ℕ → ℕ → Cell → List (List Cell)
-put_in columns slot row c = set columns slot (with_place row (plus c (place_at columns slot row)) (get_or columns slot []))
-
-column-of : (keys : List ℤ) (columns : List (List Cell)) (count slot : ℕ) → IsLarge keys columns count → slot < 512 → AreOf keys (get_or columns slot [])
-column-of keys columns count slot h low = let n = h.slots in all-at (AreOf keys) columns slot [] (omega (arith, n, low)) h.each
-
-pub place-of : (keys : List ℤ) (columns : List (List Cell)) (count slot row : ℕ) (g : ℤ) → IsLarge keys columns count → slot < 512 → slice_get keys row ≡ Some g → IsPlace g (place_at columns slot row)
-place-of keys columns count slot row g h low at = of-at keys (get_or columns slot []) row g (column-of keys columns count slot h low) at
-
--- what a place counts is part of what its slot and group count
-pub place-part : (keys : List ℤ) (columns : List (List Cell)) (count slot row : ℕ) (g : ℤ) → IsLarge keys columns count → slot < 512 → slice_get keys row ≡ Some g
-    → (place_at columns slot row).count ≤ count_at (cells_in columns slot) g
-place-part keys columns count slot row g h low at = count-place keys (get_or columns slot []) row g (column-of keys columns count slot h low) at
-
--- a cell is added to those of its slot
-pub put-sums : (keys : List ℤ) (columns : List (List Cell)) (count slot row s : ℕ) (c : Cell) → IsLarge keys columns count → slot < 512 → slice_get keys row ≡ Some c.group → 0 < c.count
-    → sums (cells_in (put_in columns slot row c) s) ≡ cond (s == slot) (add_in (sums (cells_in columns s)) c) (sums (cells_in columns s))
-put-sums keys columns count slot row s c h low at some = go (s == slot) refl
-  where
-    within : slot < length columns
-    within = let n = h.slots in omega (arith, n, low)
-
-    new : List Cell
-    new = with_place row (plus c (place_at columns slot row)) (get_or columns slot [])
-
-    go : (t : Bool) → (s == slot) ≡ t → sums (cells_in (put_in columns slot row c) s) ≡ cond t (add_in (sums (cells_in columns s)) c) (sums (cells_in columns s))
-    go true e =
-        subst (λ k. sums (cells_in (put_in columns slot row c) k) ≡ add_in (sums (cells_in columns k)) c) (sym (eqb-true s slot e))
-        (ap sums (in-same columns slot new within) ∙ shown-with [] (get_or columns slot []) row c.group c some refl (place-of keys columns count slot row c.group h low at))
-    go false e = ap sums (in-other columns slot s new e)
-
--- the whole stays sound, with one cell more if the place was empty
-pub large-put : (keys : List ℤ) (columns new : List (List Cell)) (count slot row k : ℕ) (c : Cell) → IsLarge keys columns count → slot < 512 → slice_get keys row ≡ Some c.group → 0 < c.count → IsSound c
-    → new ≡ put_in columns slot row c → k ≡ cond ((place_at columns slot row).count == 0) 1 0 → IsLarge keys new (count + k)
-large-put keys columns new count slot row k c h low at some sound is more = subst (λ columns. IsLarge keys columns (count + k)) (sym is) (record {
-  slots = length-set columns slot made_column ∙ h.slots;
-  apart = h.apart;
-  each = all-set (AreOf keys) columns slot made_column h.each
-      (of-with keys (get_or columns slot []) row c.group (plus c (place_at columns slot row)) (column-of keys columns count slot h low) at
-      (plus-is c.group c (place_at columns slot row) sound refl (place-of keys columns count slot row c.group h low at)));
-  counted = ap (λ n. n + k) h.counted ∙ sym (total-step slot k (cells_in columns) (cells_in (put_in columns slot row c)) low long);
-})
-  where
-    made_column : List Cell
-    made_column = with_place row (plus c (place_at columns slot row)) (get_or columns slot [])
-
-    within : slot < length columns
-    within = let n = h.slots in omega (arith, n, low)
-
-    long : (s : ℕ) → length (cells_in (put_in columns slot row c) s) ≡ length (cells_in columns s) + cond (s == slot) k 0
-    long s = go (s == slot) refl
-      where
-        go : (t : Bool) → (s == slot) ≡ t → length (cells_in (put_in columns slot row c) s) ≡ length (cells_in columns s) + cond t k 0
-        go true e =
-            subst (λ j. length (cells_in (put_in columns slot row c) j) ≡ length (cells_in columns j) + k) (sym (eqb-true s slot e))
-            (ap length (in-same columns slot made_column within) ∙ length-with (get_or columns slot []) row c some ∙ ap (λ n. length (cells_in columns slot) + n) (sym more))
-        go false e = ap length (in-other columns slot s made_column e) ∙ (omega arith)
-
-pub large-part : (keys : List ℤ) (columns : List (List Cell)) (count slot : ℕ) → slot < 512 → IsLarge keys columns count → length (cells_in columns slot) ≤ count
-large-part keys columns count slot low h = let a = total-part slot (cells_in columns) low in let b = h.counted in omega (arith, a, b)
-
-pub large-cleared : (keys : List ℤ) (columns new : List (List Cell)) (count slot gone : ℕ) → IsLarge keys columns count → slot < 512 → gone ≡ length (cells_in columns slot) → new ≡ set columns slot [] → IsLarge keys new (count - gone)
-large-cleared keys columns new count slot gone h low some is =
-    let within : slot < length columns = let n = h.slots in omega (arith, n, low) in
-    let more = total-step slot gone (cells_in (set columns slot [])) (cells_in columns) low (long within) in
-    let counted = h.counted in
-    subst (λ columns. IsLarge keys columns (count - gone)) (sym is) (record {
-      slots = length-set columns slot [] ∙ h.slots;
-      apart = h.apart;
-      each = all-set (AreOf keys) columns slot [] h.each (of-none keys);
-      counted = omega (arith, counted, more);
-    })
-  where
-    long : slot < length columns → (s : ℕ) → length (cells_in columns s) ≡ length (cells_in (set columns slot []) s) + cond (s == slot) gone 0
-    long within s = go (s == slot) refl
-      where
-        go : (t : Bool) → (s == slot) ≡ t → length (cells_in columns s) ≡ length (cells_in (set columns slot []) s) + cond t gone 0
-        go true e = let a = ap length (in-same columns slot [] within) in let at = eqb-true s slot e in subst (λ k. length (cells_in columns k) ≡ length (cells_in (set columns slot []) k) + gone) (sym at) (omega (arith, a, some))
-        go false e = let a = ap length (in-other columns slot s [] e) in omega (arith, a)
-
-all-from : {X : Type 0} (P : X → Type 0) (xs : List X) (d : X) → ((i : ℕ) → P (get_or xs i d)) → AllByRecursion P xs
-all-from P [] d h = tt
-all-from P (x ∷ xs) d h = (h 0, all-from P xs d (λ i. h (suc i)))
-
--- columns without places
-large-empty : (columns : List (List Cell)) → length columns ≡ 512 → ((s : ℕ) → get_or columns s [] ≡ []) → IsLarge [] columns 0
-large-empty columns long none = record {
-  slots = long;
-  apart = tt;
-  each = all-from (AreOf []) columns [] (λ i. subst (AreOf []) (sym (none i)) tt);
-  counted = sym (total-empty (cells_in columns) (λ s. ap all_shown (none s)));
-}
-
-pub large-emptied : (keys : List ℤ) (columns new : List (List Cell)) → keys ≡ [] → columns ≡ new → length new ≡ 512 → ((s : ℕ) → get_or new s [] ≡ []) → IsLarge keys columns 0
-large-emptied keys columns new none is long h = subst (λ keys. IsLarge keys columns 0) (sym none) (subst (λ columns. IsLarge [] columns 0) (sym is) (large-empty new long h))
-
-pub nothing-at : (n s : ℕ) → get_or (replicate {A = List Cell} n []) s [] ≡ []
-nothing-at zero s = refl
-nothing-at (suc n) zero = refl
-nothing-at (suc n) (suc s) = nothing-at n s
-
--- the cells of a slot
-pub grid-cells : (keys : List ℤ) (columns : List (List Cell)) (count s : ℕ) → IsLarge keys columns count → AreCells (cells_in columns s)
-grid-cells keys columns count s h = elim (cases_lt s 512) [
-  | inl low ↦
-      let of = column-of keys columns count s h low in
-      record { once = λ g. once-column keys (get_or columns s []) g of h.apart; sound = sound-column keys (get_or columns s []) of; some = some-column (get_or columns s []) }
-  | inr high ↦
-      subst (λ l. AreCells (all_shown l)) (sym (get_or_past columns s [] (let n = h.slots in omega (arith, n, high))))
-      (record { once = λ g. omega arith; sound = tt; some = tt })
-]
-
--- ---- going over places
-
-pub shown-next : (cs : List Cell) (i : ℕ) (d : Cell) → i < length cs → all_shown (take (i + 1) cs) ≡ all_shown (take i cs) ++ shown (get_or cs i d)
-shown-next cs i d low = ap all_shown (take_more cs i d low) ∙ shown-append (take i cs) (get_or cs i d ∷ []) ∙ ap (λ l. all_shown (take i cs) ++ l) (append-nil (shown (get_or cs i d)))
-
-pub shown-here : (old cs : List Cell) (i : ℕ) → i < length cs → ((get_or cs i blank).count ≡ 0 → ⊥) → (old ++ all_shown (take i cs)) ++ get_or cs i blank ∷ [] ≡ old ++ all_shown (take (i + 1) cs)
-shown-here old cs i low some =
-    append_assoc old (all_shown (take i cs)) (get_or cs i blank ∷ [])
-    ∙ ap (λ l. old ++ l) (sym (shown-next cs i blank low ∙ ap (λ l. all_shown (take i cs) ++ l) (shown-some (get_or cs i blank) (omega (arith, some)))))
-
-pub shown-passed : (old cs : List Cell) (i : ℕ) → i < length cs → (get_or cs i blank).count ≡ 0 → old ++ all_shown (take i cs) ≡ old ++ all_shown (take (i + 1) cs)
-shown-passed old cs i low none =
-    ap (λ l. old ++ l) (sym (shown-next cs i blank low ∙ ap (λ l. all_shown (take i cs) ++ l) (shown-none (get_or cs i blank) none) ∙ append-nil (all_shown (take i cs))))
+pub keys-long : (gs new : List ℤ) (g : ℤ) → new ≡ insert_key int_eq gs g → length new ≤ length gs + 1
+keys-long gs new g e = let a = ap length e in let b = long-insert gs g in omega (arith, a, b)

@@ -240,11 +240,6 @@ count-found slot g (e ∷ es) (suc i) low at = go (e.slot == slot) refl (count-f
     go true p h = let a = ap (λ l. count_at l g) (held-of e es slot p) in omega (arith, a, h)
     go false p h = let a = ap (λ l. count_at l g) (held-other e es slot p) in omega (arith, a, h)
 
-pub each-at : (es : List Entry) (i : ℕ) → i < length es → AllByRecursion IsEntry es → IsEntry (get_or es i none)
-each-at [] i low each = absurd (omega (arith, low))
-each-at (e ∷ es) zero low each = each.0
-each-at (e ∷ es) (suc i) low each = each-at es i (omega (arith, low)) each.1
-
 -- ---- slots less
 
 abbrev keeps : List Bool → Entry → Bool

@@ -4,6 +4,9 @@ pub mod ListLaws
 pub mod HeldLaws
 pub mod TotalLaws
 pub mod GridLaws
+pub mod LargeLaws
+pub mod RowLaws
+pub mod NumberLaws
 pub mod EachLaws
 pub mod PartLaws
 pub mod UpLaws

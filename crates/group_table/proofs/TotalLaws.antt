@@ -87,3 +87,23 @@ below-part (suc n) slot f low = elim (cases_eq n slot) [
 pub total-part : (slot : ℕ) (f : ℕ → List Cell) → slot < 512 → length (f slot) ≤ total f
 unfolding total
 total-part slot f low = below-part 512 slot f low
+
+below-four : (n : ℕ) (a b c d : ℕ → List Cell) → ((s : ℕ) → length (a s) + length (b s) ≡ length (c s) + length (d s)) → total_below n a + total_below n b ≡ total_below n c + total_below n d
+unfolding total_below
+below-four zero a b c d h = refl
+below-four (suc n) a b c d h = let x = below-four n a b c d h in let y = h n in omega (arith, x, y)
+
+-- what comes and goes in each slot does in all
+pub total-four : (a b c d : ℕ → List Cell) → ((s : ℕ) → length (a s) + length (b s) ≡ length (c s) + length (d s)) → total a + total b ≡ total c + total d
+unfolding total
+total-four a b c d h = below-four 512 a b c d h
+
+below-most : (n : ℕ) (f : ℕ → List Cell) → ((s : ℕ) → length (f s) ≤ 1) → total_below n f ≤ n
+unfolding total_below
+below-most zero f h = omega arith
+below-most (suc n) f h = let a = below-most n f h in let b = h n in omega (arith, a, b)
+
+-- where no slot has more than one
+pub total-most : (f : ℕ → List Cell) → ((s : ℕ) → length (f s) ≤ 1) → total f ≤ 512
+unfolding total
+total-most f h = below-most 512 f h

@@ -2,7 +2,7 @@
 use Rattle.std.specs.Prelude.{◌≡◌, ℤ, ℕ, pos, true, false, List, [], ◌∷◌, refl}
 use Rattle.as_base.specs.declared.fragment.Cell.{Cell}
 use Rattle.group_table.specs.Cells.{blank, sums, count_at}
-use Rattle.group_table.specs.Grids.{all_shown, with_place}
+use Rattle.group_table.specs.Grids.{all_shown, column, without, cells_of}
 use Rattle.group_table.specs.Steps.{added_each}
 
 abbrev cell : ℤ → ℤ → ℕ → Cell
@@ -36,9 +36,16 @@ not_in_one = refl
 pub not_beyond : slot_of_three 3 ≡ []
 not_beyond = refl
 
--- a cell in row 2 of a column without places: those before it are empty
-pub placed : with_place 2 (cell (pos 5) (pos 3) 1) [] ≡ blank ∷ blank ∷ cell (pos 5) (pos 3) 1 ∷ []
-placed = refl
+-- two rows of three columns, where the second row ends early: column 2 has one cell
+abbrev rows : List (List Cell)
+rows = (cell (pos 5) (pos 3) 1 ∷ blank ∷ cell (pos 5) (pos 4) 1 ∷ []) ∷ (cell (pos 6) (pos 9) 1 ∷ []) ∷ []
 
-pub shows_one : all_shown (with_place 2 (cell (pos 5) (pos 3) 1) []) ≡ cell (pos 5) (pos 3) 1 ∷ []
-shows_one = refl
+pub of_column : all_shown (column 2 rows) ≡ cell (pos 5) (pos 4) 1 ∷ []
+of_column = refl
+
+-- slot 0 has column 1, slot 1 none, and slot 2 column 0
+pub of_slot : cells_of (record { keys = pos 5 ∷ pos 6 ∷ []; rows = rows; numbers = 1 ∷ 512 ∷ 0 ∷ []; width = 3 }) 2 ≡ cell (pos 5) (pos 3) 1 ∷ cell (pos 6) (pos 9) 1 ∷ []
+of_slot = refl
+
+pub emptied : all_shown (column 0 (without 0 rows)) ≡ []
+emptied = refl

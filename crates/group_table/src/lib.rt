@@ -2,8 +2,9 @@
 #![tactic(auto)]
 
 mod cells;
-mod column;
 mod large;
+mod numbers;
+mod row;
 mod small;
 mod sums;
 mod table;

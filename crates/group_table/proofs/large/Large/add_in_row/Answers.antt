@@ -1,32 +1,41 @@
-use Rattle.std.proofs.Common.{refl, ap, ◌∙◌}
-use Rattle.group_table.specs.Cells.{add_in, sums}
-use Rattle.group_table.specs.Grids.{Grid, cells_of}
-use Rattle.group_table.proofs.ListLaws.{on-err}
-use Rattle.group_table.proofs.EachLaws.{each-begin, each-room, each-step, each-done, each-some}
+use Rattle.std.proofs.Common.{◌≡◌, ◌≤◌, ◌<◌, ◌+◌, ◌^◌, ◌∙◌, ℕ, List, Some, false, cond, [], length, get_or, slice_get, sym, ap, subst}
+use Rattle.group_table.specs.Cells.{add_in, sums, count_at}
+use Rattle.group_table.specs.Grids.{Grid, cells_of, Takes, HasAdded}
+use Rattle.group_table.proofs.LargeLaws.{row-low, large-takes, added-large, added-sums}
 use Rattle.group_table.proofs.large.Large.add_in_row.Goals as goal
 
-pub slots-init : goal.slots-init
-slots-init c = record {
-  keys = refl;
-  adding = each-begin (λ cs. add_in cs c.args.cell) (λ k. sums (cells_of c.args.self.now k)) c.args.slots.now (λ k. sums (cells_of c.args.self.now k)) c.of-left.result (λ s. refl) c.of-left.ensures;
-}
+pub add_to-requires-clause-within : goal.add_to-requires-clause-within
+add_to-requires-clause-within c =
+    let view = sym c.self.view_is in
+    let at = subst (λ (grid : Grid). slice_get grid.keys c.args.row ≡ Some c.args.cell.group) view c.requires.row in
+    row-low c.self.inside.groups.keys c.self.inside.rows.items c.self.inside.numbers.numbers c.self.inside.numbers.width c.self.inside.count c.self.invariant c.args.row c.args.cell.group at
 
-pub add_at-requires-clause-few : goal.add_at-requires-clause-few
-add_at-requires-clause-few c =
-    each-room (λ k. sums (cells_of c.args.self.now k)) (λ k. sums (cells_of c.slots.self k)) c.args.slots.now c.slots.left c.next.new.self c.args.cell c.in-Some.slot
-    c.slots.invariant.adding c.in-Some.ensures.some c.requires.few
+pub add_to-requires-clause-takes : goal.add_to-requires-clause-takes
+add_to-requires-clause-takes c =
+    let view = sym c.self.view_is in
+    let at = subst (λ (grid : Grid). slice_get grid.keys c.args.row ≡ Some c.args.cell.group) view c.requires.row in
+    subst (λ (l : List ℕ). Takes (get_or c.self.inside.rows.items c.args.row []) l c.args.slots.now c.args.cell) (sym c.all.ensures.value)
+    (large-takes c.self.inside.groups.keys c.self.inside.rows.items c.self.inside.numbers.numbers c.self.inside.numbers.width c.self.inside.count c.self.invariant c.args.row c.args.slots.now c.args.cell at c.requires.sound c.requires.some
+    (ap (λ (l : List ℕ). length l) (sym c.all.ensures.value) ∙ c.all.ensures.len) c.all.ensures.apart
+    (λ s on. subst (λ (grid : Grid). get_or grid.numbers s 512 < length (get_or grid.rows c.args.row [])) view (c.requires.within s on))
+    (λ s on. subst (λ (grid : Grid). count_at (sums (cells_of grid s)) c.args.cell.group + c.args.cell.count ≤ 2 ^ 62) view (c.requires.few s on)))
 
-pub slots-preserved : goal.slots-preserved
-slots-preserved c = record {
-  keys = c.in_ok-add_at.ensures.keys ∙ c.slots.invariant.keys;
-  adding = each-step (λ cs. add_in cs c.args.cell) (λ k. sums (cells_of c.args.self.now k)) c.args.slots.now (λ k. sums (cells_of c.slots.self k)) c.slots.left c.slots.invariant.adding
-      (λ k. sums (cells_of c.add_at.new.self k)) c.next.new.self c.in-Some.slot c.in-Some.ensures.some c.in_ok-add_at.ensures.ok;
-}
-
-pub returns-in_err-add_at-clause-err : goal.returns-in_err-add_at-clause-err
-returns-in_err-add_at-clause-err c = on-err c.from_residual.result
-    (each-some (λ k. sums (cells_of c.args.self.now k)) (λ k. sums (cells_of c.slots.self k)) (λ k. sums (cells_of c.add_at.new.self k)) c.args.slots.now c.slots.left c.args.cell c.slots.invariant.adding
-    (λ s. ap (λ (grid : Grid). sums (cells_of grid s)) c.in_err-add_at.ensures.err))
+pub invariant_of-self : goal.invariant_of-self
+invariant_of-self c =
+    let view = sym c.self.view_is in
+    let at = subst (λ (grid : Grid). slice_get grid.keys c.args.row ≡ Some c.args.cell.group) view c.requires.row in
+    let rows = c.self.inside.rows.items in
+    let new = c.add_to.new.rows.items in
+    added-large c.self.inside.groups.keys c.self.inside.rows.items c.self.inside.numbers.numbers c.self.inside.numbers.width c.self.inside.count c.self.invariant c.args.row c.args.slots.now c.args.cell new c.add_to.result at c.add_to.ensures.value
+    (subst (λ (l : List ℕ). HasAdded (get_or rows c.args.row []) (get_or new c.args.row []) l c.args.slots.now c.args.cell c.add_to.result) c.all.ensures.value c.add_to.ensures.added)
 
 pub returns-clause-ok : goal.returns-clause-ok
-returns-clause-ok c = each-done (λ cs. add_in cs c.args.cell) (λ k. sums (cells_of c.args.self.now k)) c.args.slots.now (λ k. sums (cells_of c.slots.self k)) c.slots.left c.slots.invariant.adding c.in_default.ensures.none
+returns-clause-ok c = λ s.
+    let view = sym c.self.view_is in
+    let at = subst (λ (grid : Grid). slice_get grid.keys c.args.row ≡ Some c.args.cell.group) view c.requires.row in
+    let rows = c.self.inside.rows.items in
+    let new = c.add_to.new.rows.items in
+    added-sums c.self.inside.groups.keys c.self.inside.rows.items c.self.inside.numbers.numbers c.self.inside.numbers.width c.self.inside.count c.self.invariant c.args.row c.args.slots.now c.args.cell new c.add_to.result at c.add_to.ensures.value
+    (subst (λ (l : List ℕ). HasAdded (get_or rows c.args.row []) (get_or new c.args.row []) l c.args.slots.now c.args.cell c.add_to.result) c.all.ensures.value c.add_to.ensures.added)
+    s c.requires.some
+    ∙ ap (λ (grid : Grid). cond (get_or c.args.slots.now s false) (add_in (sums (cells_of grid s)) c.args.cell) (sums (cells_of grid s))) c.self.view_is

@@ -1,0 +1,6 @@
+pub mod Sent
+pub mod Due
+pub mod Part
+pub mod Machine
+pub mod Bounds
+pub mod Worked
