@@ -289,6 +289,7 @@ impl Epochs {
         ensures newest { OnOk result (newest self.new ≡ time_of c.now) }
         ensures last_err { OnErr result (last_of self.new ≡ last_of self.old) }
         ensures newest_err { OnErr result (newest self.new ≡ newest self.old) }
+        ensures kept { (e : ℕ) → IsKept self.old e → IsKept self.new e }
         ensures changes { (cs : List Change) → EpochsFor self.old cs →
             MatchResult result (λ _. EpochsFor self.new (cs ++ c.now ∷ [])) (λ _. EpochsFor self.new cs) }
     {

@@ -54,6 +54,7 @@ impl Touched {
         requires few { last_of self.old < 2 ^ 62 }
         ensures last { OnOk result (last_of self.new ≡ last_of self.old + 1) }
         ensures last_err { OnErr result (last_of self.new ≡ last_of self.old) }
+        ensures kept { (e : ℕ) → IsKept self.old e → IsKept self.new e }
         ensures sets { (sets : List (List Bool)) → TouchedFor self.old sets →
             MatchResult result (λ _. TouchedFor self.new (sets ++ set.now ∷ [])) (λ _. TouchedFor self.new sets) }
     {

@@ -114,7 +114,7 @@ made-push : (p : Past) (c : Change) → p.holders ≡ holders_of p.changes → h
 made-push p c made = ap (λ hs. held hs c) made ∙ sym (held-push [] p.changes c)
 
 -- the time of the last change is not after a time that none is after
-last-below : (before at : ℕ) (cs : List Change) → before ≤ at → AllByRecursion (λ (c : Change). time_of c ≤ at) cs → last_or before (times_of cs) ≤ at
+pub last-below : (before at : ℕ) (cs : List Change) → before ≤ at → AllByRecursion (λ (c : Change). time_of c ≤ at) cs → last_or before (times_of cs) ≤ at
 last-below before at [] low a = low
 last-below before at (c ∷ cs) low a = last-below (time_of c) at cs a.0 a.1
 
@@ -143,7 +143,7 @@ live-named n slot (h ∷ hs) e = elim (or_cases (is_live_as n slot h) (list_any 
   | inr f ↦ or_right (is_named n h) (list_any (is_named n) hs) (live-named n slot hs f)
 ]
 
-slot-within : (n slot : ℕ) (hs : List Holder) → AllByRecursion IsHolder hs → list_any (is_live_as n slot) hs ≡ true → slot < 512
+pub slot-within : (n slot : ℕ) (hs : List Holder) → AllByRecursion IsHolder hs → list_any (is_live_as n slot) hs ≡ true → slot < 512
 slot-within n slot [] i e = absurd (both_ways false refl e)
 slot-within n slot (h ∷ hs) i e = elim (or_cases (is_live_as n slot h) (list_any (is_live_as n slot) hs) e) [
   | inl f ↦ (let a = and_parts (eqb h.query.n n) (is_live_in slot h) f in let b = and_parts (eqb h.slot slot) h.query.live a.1 in subst (λ s. s < 512) (eqb-true h.slot slot b.0) (i.0).slot)

@@ -7,5 +7,6 @@ pub mod Cells
 pub mod Pairs
 pub mod Touched
 pub mod Rows
+pub mod Reply
 pub mod Held
 pub mod Worked

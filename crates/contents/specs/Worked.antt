@@ -1,6 +1,8 @@
 -- Worked rows, evaluated on the definitions alone.
 use Rattle.std.specs.Prelude.{◌≡◌, ℕ, ℤ, pos, true, false, List, [], ◌∷◌, ◌++◌, replicate, map, length, refl}
+use Rattle.as_base.specs.declared.fragment.Body.TheVariants as body
 use Rattle.as_base.specs.declared.fragment.Cell.{Cell}
+use Rattle.as_base.specs.declared.fragment.Fragment.{Fragment}
 use Rattle.as_base.specs.declared.item.Record.{Record}
 use Rattle.as_base.specs.declared.message.Change.TheVariants.{Opened, Closed}
 use Rattle.as_base.specs.declared.message.Msg.{Msg}
@@ -17,6 +19,7 @@ use Rattle.contents.specs.Held.{pairs, held_after}
 use Rattle.contents.specs.Kept.{kept}
 use Rattle.contents.specs.Pairs.{is_paired}
 use Rattle.contents.specs.Past.{past_of}
+use Rattle.contents.specs.Reply.{reply_to}
 
 -- a plan without bounds, of windows of this size that begin every so many ticks
 abbrev plan : Kind → StreamId → ℕ → ℕ → Plan
@@ -125,3 +128,30 @@ held_passed_before = refl
 
 pub held_passed_behind : held_after (selection ∷ comes A 2 5 ∷ comes A 3 8 ∷ marks 6 0 ∷ []) ≡ record { records = 2; cells = 0; pairs = 0 }
 held_passed_behind = refl
+
+-- ---- replies
+
+-- what is replied, after the messages, to the watermarks
+abbrev replied : List Msg → ℕ → ℕ → List Fragment
+replied ms a b = (reply_to (past_of ms) (a ∷ b ∷ 0 ∷ 0 ∷ [])).fragments
+
+-- the record that is passed, and not the one that waits
+pub one_picked : replied (selection ∷ comes A 2 5 ∷ comes A 3 8 ∷ []) 6 0
+    ≡ (record { n = 1; plan = plan Select A 1 1; start = 0; body = body.Recs (at A 2 5 ∷ []) }) ∷ []
+one_picked = refl
+
+-- one that was passed before is not replied again
+pub none_again : replied (selection ∷ comes A 2 5 ∷ marks 6 0 ∷ []) 7 0 ≡ []
+none_again = refl
+
+-- the cells of the window that is passed
+pub first_window : replied counts 100 0
+    ≡ (record { n = 1; plan = plan Count A 100 100; start = 0; body = body.Cells (cell (pos 0) (pos 0) 2 ∷ []) }) ∷ []
+first_window = refl
+
+-- a join waits for both watermarks
+pub waits_for_both : replied (opens 1 0 (plan Join B 10 5) ∷ comes A 2 6 ∷ comes B 3 7 ∷ []) 10 5 ≡ []
+waits_for_both = refl
+
+pub both_passed : map (λ (f : Fragment). f.start) (replied (opens 1 0 (plan Join B 10 5) ∷ comes A 2 6 ∷ comes B 3 7 ∷ []) 10 10) ≡ 0 ∷ []
+both_passed = refl

@@ -4,3 +4,10 @@ pub mod OrderlyLaws
 pub mod DueLaws
 pub mod AdvanceLaws
 pub mod BoundLaws
+pub mod PartedLaws
+pub mod WindowedLaws
+pub mod MergedCellLaws
+pub mod PickedLaws
+pub mod PartedRowLaws
+pub mod ReplyPieceLaws
+pub mod ReplySoundLaws

@@ -2,6 +2,8 @@
 //! here are their laws.
 #![tactic(auto)]
 
+mod merging;
+
 ghost use Rattle.std.specs.Prelude.{◌≡◌, ℕ, ◌<◌, ◌^◌, true, List, [], ◌∷◌, ◌++◌, map, length, take, count_by};
 ghost use Rattle.std.specs.List.{filter, AllByRecursion};
 ghost use Rattle.as_base.specs.declared.config.Config.{Config};
@@ -20,6 +22,8 @@ ghost use Rattle.net_core.specs.Due.{due, dues};
 ghost use Rattle.net_core.specs.Machine.{Event, start, is_advance, run};
 ghost use Rattle.net_core.specs.Part.{in_part};
 ghost use Rattle.net_core.specs.Sent.{goes_to, sent_by, sent};
+
+pub use merging::replies_make_what_is_due;
 
 /// One item more sends what it gives by those before it.
 pub fn sent_is_said_item_by_item()

@@ -7,8 +7,8 @@ use Rattle.group_table.specs.Cells.{count_at}
 use Rattle.group_table.specs.Tables.{cells_at}
 use Rattle.group_table.specs.Totals.{total, total_below}
 use Rattle.shared_agg.specs.declared.slices.Slice.{Slice}
-use Rattle.shared_agg.specs.Slices.{starts, cells_from, epoch_from, count_in, StartsRise, AreRising, IsChangedAt, without}
-use Rattle.shared_agg.proofs.OrderLaws.{all-at, all-by}
+use Rattle.shared_agg.specs.Slices.{starts, cells_from, epoch_from, count_in, begun_before, StartsRise, AreRising, IsChangedAt, without}
+use Rattle.shared_agg.proofs.OrderLaws.{all-at, all-by, begins-before}
 
 pub apart-below : (a b : ℕ) → a < b → eqb a b ≡ false
 apart-below a b h = ne_eqb a b (λ e. absurd (omega (arith, h, e)))
@@ -319,3 +319,18 @@ less-epoch (suc k) (x ∷ xs) d rise lt c =
     by_cases : (b : Bool) → eqb c x.start ≡ b → cond b (Some x.epoch) (cond (eqb c at) None (epoch_from xs c)) ≡ cond (eqb c at) None (cond b (Some x.epoch) (epoch_from xs c))
     by_cases true e = let same = eqb-true c x.start e in sym (ap (λ b. cond b None (Some x.epoch)) (apart-below c at (omega (arith, later, same))))
     by_cases false e = refl
+
+-- between a time and the first slice from it on there are no cells
+pub none-between : (from c k slot : ℕ) (xs : List Slice) → StartsRise xs → k ≡ begun_before from xs → k ≤ length xs → from ≤ c → ((d : Slice) → k < length xs → c < (get_or xs k d).start)
+    → cells_from xs c slot ≡ []
+none-between from c k slot xs rise is within low high = gap-cells c k slot xs rise (record {
+  within = within;
+  low = λ j d lt. let b = begins-before from xs rise j d (omega (arith, lt, is)) in omega (arith, b, low);
+  high = high;
+})
+
+-- a slice that is there, whatever stands for one that is not
+pub slice-there : (xs : List Slice) (k : ℕ) (d e : Slice) → k < length xs → get_or xs k d ≡ get_or xs k e
+slice-there [] k d e lt = absurd (omega (arith, lt))
+slice-there (x ∷ xs) zero d e lt = refl
+slice-there (x ∷ xs) (suc k) d e lt = slice-there xs k d e (omega (arith, lt))

@@ -58,6 +58,11 @@ sums_between from to slot slices = sums (flat_map (λ start. cells_from slices s
 abbrev pub cells_within : ℕ → ℕ → ℕ → List Slice → List Cell
 cells_within first past slot slices = flat_map (λ (s : Slice). cells_at s.table slot) (take (past - first) (drop first slices))
 
+-- the time is before another; any time is, where there is none
+abbrev pub ComesBefore : ℕ → Option ℕ → Type 0
+ComesBefore t None = Unit {0}
+ComesBefore t (Some c) = t < c
+
 -- each slice begins before those behind it
 abbrev pub StartsRise : List Slice → Type 0
 StartsRise [] = Unit {0}

@@ -1,4 +1,4 @@
-ghost use Rattle.std.specs.Prelude.{◌≡◌, ℕ, ◌+◌, ◌-◌, ◌≤◌, ◌<◌, ◌^◌, ◌==◌, ◌&&◌, false, true, not, min, length, map, Some, None, [], List, IfOk, OnErr, OnOk, if◌then◌else◌, slice_index_or, fold, ◌↔◌};
+ghost use Rattle.std.specs.Prelude.{◌≡◌, ℕ, ◌+◌, ◌-◌, ◌≤◌, ◌<◌, ◌^◌, ◌==◌, ◌&&◌, false, true, not, min, length, map, Some, None, [], List, IfOk, IfSome, OnErr, OnOk, if◌then◌else◌, slice_index_or, fold, ◌↔◌};
 ghost use Rattle.std.specs.List.{AllByRecursion, filter, flat_map};
 ghost use Rattle.as_base.specs.declared.message.Change.{Change};
 ghost use Rattle.as_base.specs.declared.stream.StreamId.{StreamId};
@@ -9,7 +9,7 @@ ghost use Rattle.changelog.specs.EpochsFor.{EpochsFor, IsKept, owned};
 ghost use Rattle.group_table.specs.Cells.{add_in, sums};
 ghost use Rattle.shared_agg.specs.Duties.{duty_of, all_slots};
 ghost use Rattle.shared_agg.specs.Shares.{shares};
-ghost use Rattle.shared_agg.specs.Slices.{is_between, AreRising, AreFed, ArePartlyFed, AreDropped, EpochsStay, OthersStay, total_in};
+ghost use Rattle.shared_agg.specs.Slices.{is_between, ComesBefore, AreRising, AreFed, ArePartlyFed, AreDropped, EpochsStay, OthersStay, total_in};
 ghost use Rattle.shared_agg.specs.Fill.{has, due};
 ghost use Rattle.shared_agg.specs.Aggs.{lane_at, lane_of, starts_of, cells_in, epoch_in, records_of, cells_of, is_slice, cache_at, IsCacheFor, AggsFor, HaveShares, IsNone};
 
@@ -256,6 +256,15 @@ impl Aggs {
         ensures filled { (c : ℕ) → (epoch_in self.now s c ≡ None) ↔ ((slot : ℕ) → slot < 512 → cells_in self.now s c slot ≡ []) }
     {
         self.lane(s).len()
+    }
+
+    /// When the first slice of the stream begins that begins at `from` or later, in ticks, of those that have a cell; `None`
+    /// where there is none.
+    pub fn start_from(&self, s: StreamId, from: u64) -> Option<u64>
+        ensures from { IfSome result (λ start. from ≤ start) }
+        ensures none { (c slot : ℕ) → from ≤ c → ComesBefore c result → cells_in self.now s c slot ≡ [] }
+    {
+        self.lane(s).start_from(from)
     }
 
     /// When the slice `i` of the stream begins, in ticks, of those that have a cell, by rising start.

@@ -1,10 +1,10 @@
-ghost use Rattle.std.specs.Prelude.{◌≡◌, ℕ, ℤ, ◌+◌, ◌≤◌, ◌<◌, ◌^◌, ◌-◌, false, min, length, IfOk, OnErr, OnOk, if◌then◌else◌, ◌==◌, [], slice_index_or};
+ghost use Rattle.std.specs.Prelude.{◌≡◌, ℕ, ℤ, ◌+◌, ◌≤◌, ◌<◌, ◌^◌, ◌-◌, false, min, length, IfOk, IfSome, OnErr, OnOk, if◌then◌else◌, ◌==◌, [], slice_index_or};
 ghost use Rattle.std.specs.List.{AllByRecursion};
 ghost use Rattle.group_table.specs.Cells.{sums, IsSound};
 ghost use Rattle.group_table.specs.Steps.{dropped};
 ghost use Rattle.group_table.specs.Tables.{cells_at};
 ghost use Rattle.shared_agg.specs.Fill.{due};
-ghost use Rattle.shared_agg.specs.Slices.{Lane, lane, starts, cells_from, epoch_from, count_in, total_in, begun_before, sums_between, cells_within, StartsRise, IsLane, IsChangedAt, HasGrown, HasGot, HasLost, IsSlice, IsPutIn, IsLetGo, AreFed, ArePartlyFed, AreDropped, EpochsStay, OthersStay};
+ghost use Rattle.shared_agg.specs.Slices.{Lane, lane, starts, cells_from, epoch_from, count_in, total_in, begun_before, sums_between, cells_within, ComesBefore, StartsRise, IsLane, IsChangedAt, HasGrown, HasGot, HasLost, IsSlice, IsPutIn, IsLetGo, AreFed, ArePartlyFed, AreDropped, EpochsStay, OthersStay};
 
 use crate::duties::Duties;
 use crate::fill::fill;
@@ -268,6 +268,19 @@ fn places_between(slices: &VecDeque<Slice>, from: u64, to: u64) -> (usize, usize
     (count_before(slices, from), count_before(slices, to))
 }
 
+// When the first of the slices, whose starts rise, begins that begins at `from` or later.
+fn start_from(slices: &VecDeque<Slice>, from: u64) -> Option<u64>
+    requires { StartsRise slices.now.items }
+    ensures from { IfSome result (λ start. from ≤ start) }
+    ensures none { (c slot : ℕ) → from ≤ c → ComesBefore c result → cells_from slices.now.items c slot ≡ [] }
+{
+    let place = count_before(slices, from);
+    if place < slices.len() {
+        return Some(slices[place].start);
+    }
+    None
+}
+
 // The same of the slices that begin in a range.
 fn window(
     slices: &VecDeque<Slice>,
@@ -368,6 +381,14 @@ impl Slices {
         ensures lane { IsLane self.now }
     {
         self.slices.len()
+    }
+
+    /// When the first slice begins that begins at `from` or later, in ticks; `None` where there is none.
+    pub fn start_from(&self, from: u64) -> Option<u64>
+        ensures from { IfSome result (λ start. from ≤ start) }
+        ensures none { (c slot : ℕ) → from ≤ c → ComesBefore c result → cells_from self.now.slices c slot ≡ [] }
+    {
+        start_from(&self.slices, from)
     }
 
     /// When slice `i` begins, in ticks.

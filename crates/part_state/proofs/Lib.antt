@@ -1,0 +1,12 @@
+pub mod KeepLaws
+pub mod ReaderLaws
+pub mod EntryLaws
+pub mod CellLaws
+pub mod StandingLaws
+pub mod SetLaws
+pub mod EvictLaws
+pub mod AwaitLaws
+pub mod AdvanceLaws
+pub mod DropLaws
+pub mod PassedLaws
+pub mod StateLaws

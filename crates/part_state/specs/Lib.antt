@@ -1,0 +1,9 @@
+pub mod Keeping
+pub mod Cut
+pub mod Tagged
+pub mod Reader
+pub mod Entries
+pub mod Waiting
+pub mod Dropped
+pub mod Standing
+pub mod StateFor
